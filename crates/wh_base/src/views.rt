@@ -1,0 +1,123 @@
+use crate::columns::ColRef;
+use crate::logs::LogFacts;
+use crate::queries::StarQuery;
+use crate::seq::Seq;
+use crate::statements::Method;
+use crate::tables::{TableDef, Touch};
+use crate::txt::Txt;
+use crate::values::Value;
+
+/// What a view stores for a group or a tuple; the key is empty in a join view.
+#[derive(Drop)]
+pub struct ViewEntry {
+    pub key: Seq<Value>,
+    pub row: Seq<Value>,
+}
+
+pub type ViewRows = Seq<ViewEntry>;
+
+/// The tables are in tree order.
+#[derive(Drop)]
+pub struct ViewDef {
+    pub view: u64,
+    pub name: Txt,
+    pub query: StarQuery,
+    pub tables: Seq<TableDef>,
+    pub text: Txt,
+    pub method: Method,
+    pub on_commit: bool,
+    pub rewrite: bool,
+}
+
+#[derive(Drop)]
+pub struct TableFacts {
+    pub log: Option<LogFacts>,
+    pub inserted: u64,
+    pub removed: u64,
+    pub maintained: u64,
+    pub touches: Seq<Touch>,
+}
+
+#[derive(Drop)]
+pub struct RefreshFacts {
+    pub point: Option<u64>,
+    pub registered: bool,
+    pub tables: Seq<TableFacts>,
+}
+
+/// Why a view can't be refreshed by its log or by partitions, with the table and the column.
+#[derive(Clone, Copy)]
+pub enum Restriction {
+    F1,
+    F2,
+    F3(u32),
+    F4(u32),
+    F5(u32, u32),
+    F6(u32),
+    F7,
+    F8(u32),
+    F9,
+    F10(u32),
+    F11(u32),
+    F12(u32),
+    F13(u32),
+    P1,
+    P2,
+    P3(u32),
+}
+
+#[derive(Clone, Copy)]
+pub enum ViewState {
+    Unbuilt,
+    Fresh,
+    Partly,
+    Stale,
+}
+
+/// The kinds of rewrite.
+#[derive(Clone, Copy)]
+pub enum Class {
+    Full,
+    Partial,
+    General,
+    JoinBack,
+}
+
+/// A table joined back by its column `by` over the available column `source`; `columns` is what it gains.
+#[derive(Drop)]
+pub struct Back {
+    pub table: u32,
+    pub by: ColRef,
+    pub source: ColRef,
+    pub level: bool,
+    pub columns: Seq<u32>,
+}
+
+#[derive(Drop)]
+pub struct Reach {
+    pub failed: u32,
+    pub back: Seq<Back>,
+}
+
+/// A plan over a view, by the view's number and name and its point.
+#[derive(Drop)]
+pub struct ViewPlan {
+    pub class: Class,
+    pub view: u64,
+    pub name: Txt,
+    pub point: u64,
+    pub back: Seq<Back>,
+}
+
+#[derive(Drop)]
+pub enum Plan {
+    Base,
+    View(ViewPlan),
+}
+
+#[derive(Drop)]
+pub struct Verdict {
+    pub view: Txt,
+    pub class: Option<Class>,
+    pub failed: u32,
+}
