@@ -1,0 +1,9 @@
+pub mod Closing
+pub mod Joined
+pub mod Journals
+pub mod Lists
+pub mod Lawful
+pub mod Raising
+pub mod Seats
+pub mod Sharing
+pub mod Turning
