@@ -1,0 +1,5 @@
+pub mod Steps
+pub mod Texts
+pub mod Spans
+pub mod Numbers
+pub mod Statements
