@@ -1,0 +1,102 @@
+-- The plan that is chosen for a query, its rows, and the base rows that it reads.
+use Rattle.std.specs.Ordering.{nat_cmp, ordering_then}
+use Rattle.std.specs.Prelude.{Bool, List, Option, [], filter_map, length, map, nat_abs, option_map, sum_by, ℕ}
+use Rattle.std.specs.declared.cmp.Ordering.{Ordering}
+use Rattle.wh_base.specs.Lists.{least_by, option_case}
+use Rattle.wh_base.specs.Tables.{Base, table_at}
+use Rattle.wh_base.specs.declared.queries.StarQuery.{StarQuery}
+use Rattle.wh_base.specs.declared.statements.Level.{Level}
+use Rattle.wh_base.specs.declared.values.Value.{Value}
+use Rattle.wh_base.specs.declared.views.Back.{Back}
+use Rattle.wh_base.specs.declared.views.Class.{Class}
+use Rattle.wh_base.specs.declared.views.Class.TheVariants.{Full, General, JoinBack, Partial}
+use Rattle.wh_base.specs.declared.views.Plan.{Plan}
+use Rattle.wh_base.specs.declared.views.Verdict.{Verdict}
+use Rattle.wh_base.specs.declared.views.ViewPlan.{ViewPlan}
+use Rattle.def_choice.specs.Eligible.{back_of, class_of, failed_of, standing}
+use Rattle.def_history.specs.Catalog.{Catalog, View, base_at, base_now, defs_now, view_numbered}
+use Rattle.def_history.specs.Staleness.{content, point_of}
+use Rattle.wh_lex.specs.declared.token.Token.{Token}
+use Rattle.def_meaning.specs.Meaning.{in_order, meaning}
+use Rattle.def_meaning.specs.Ranges.{base_reads}
+use Rattle.def_rewriting.specs.PlanRows.{class_rows}
+use Rattle.wh_base.specs.declared.views.Plan.TheVariants as plan
+
+-- ---- choice
+
+-- FULL before PARTIAL before GENERAL before JOINBACK.
+abbrev pub class_rank : Class → ℕ
+class_rank Full = 0
+class_rank Partial = 1
+class_rank General = 2
+class_rank JoinBack = 3
+
+-- A view that is eligible, with its class, the tables joined back, and the number of its entries.
+pub record Candidate : Type 0 where
+  pub view : View
+  pub class : Class
+  pub back : List Back
+  pub size : ℕ
+
+-- The view as a candidate, where it is eligible.
+abbrev pub candidate : Catalog → StarQuery → List Token → Level → Bool → View → Option Candidate
+candidate c q text level enabled v =
+    let s = standing c q text level enabled v in
+    option_map (λ class. record { view = v; class = class; back = back_of s; size = length (content c v) }) (class_of s)
+
+-- The first class goes first, and in a class the view with the fewest entries.
+abbrev pub candidate_cmp : Candidate → Candidate → Ordering
+candidate_cmp a b = ordering_then (nat_cmp (class_rank a.class) (class_rank b.class)) (nat_cmp a.size b.size)
+
+-- The first of the candidates; of equals the one created earliest.
+abbrev pub best : Catalog → StarQuery → List Token → Level → Bool → Option Candidate
+best c q text level enabled = least_by candidate_cmp (filter_map (candidate c q text level enabled) c.views)
+
+-- The plan over this view; it prints the view's point.
+abbrev pub view_plan : Candidate → Plan
+view_plan x = plan.View (record { class = x.class; view = x.view.def.view; name = x.view.def.name; point = point_of x.view; back = x.back })
+
+-- The plan: the best view, and BASE exactly where no view is eligible.
+abbrev pub choice : Catalog → StarQuery → List Token → Level → Bool → Plan
+choice c q text level enabled = option_case (best c q text level enabled) plan.Base view_plan
+
+-- ---- rows
+
+-- The SCN that the query asks about: that of AS OF, else that of now.
+abbrev pub asked_scn : Catalog → StarQuery → ℕ
+asked_scn c q = option_case q.as_of c.scn nat_abs
+
+-- The base state at that SCN.
+abbrev pub base_then : Catalog → StarQuery → Base
+base_then c q = base_at c (asked_scn c q)
+
+-- The rows of a plan over this view, not yet in order.
+abbrev pub view_rows : Catalog → StarQuery → ViewPlan → View → List (List Value)
+view_rows c q p v = class_rows (defs_now c) (base_now c) q v.def.query p.class p.back (content c v)
+
+-- The rows of a plan: under BASE the query's meaning over the base rows, else what the view's entries give, in the query's order.
+abbrev pub plan_meaning : Catalog → StarQuery → Plan → List (List Value)
+plan_meaning c q plan.Base = meaning q (base_then c q)
+plan_meaning c q (plan.View p) = in_order q.order (option_case (view_numbered c p.view) [] (view_rows c q p))
+
+-- ---- reads
+
+-- The live rows of the tables joined back: their number.
+abbrev pub back_reads : Base → List Back → ℕ
+back_reads base backs = sum_by (λ b. length (table_at base b.table).rows) backs
+
+-- READ of a plan: what the base plan reads, or the tables joined back.
+abbrev pub plan_reads : Catalog → StarQuery → Plan → ℕ
+plan_reads c q plan.Base = base_reads q (base_then c q)
+plan_reads c q (plan.View p) = back_reads (base_now c) p.back
+
+-- ---- EXPLAIN REWRITE
+
+-- The view's name with its class, or with the number of the condition that fails first.
+abbrev pub verdict : Catalog → StarQuery → List Token → Level → Bool → View → Verdict
+verdict c q text level enabled v =
+    let s = standing c q text level enabled v in record { view = v.def.name; class = class_of s; failed = failed_of s }
+
+-- One for each view, in the order of creation.
+abbrev pub verdicts : Catalog → StarQuery → List Token → Level → Bool → List Verdict
+verdicts c q text level enabled = map (verdict c q text level enabled) c.views

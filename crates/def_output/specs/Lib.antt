@@ -1,0 +1,5 @@
+pub mod Reads
+pub mod Checking
+pub mod Generator
+pub mod Output
+pub mod Headline
