@@ -1,0 +1,9 @@
+pub mod Inserting
+pub mod Keeping
+pub mod Stepping
+pub mod Creating
+pub mod Selecting
+pub mod Answering
+pub mod Rows
+pub mod Resolving
+pub mod Core
