@@ -1,0 +1,14 @@
+//! The text of replies, and the line of a journal.
+#![tactic(auto)]
+
+mod bodies;
+mod fields;
+mod lines;
+mod plans;
+mod refusals;
+mod replies;
+#[cfg(test)]
+mod tests;
+mod words;
+
+pub use replies::{journal_text, push_journal, push_reply, reply_text};

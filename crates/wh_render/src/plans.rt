@@ -1,0 +1,76 @@
+ghost use Rattle.std.specs.Prelude.{◌≡◌, ◌++◌, ◌∷◌, OnOk, decimal};
+ghost use Rattle.def_transcript.specs.Texts.{class_text, method_text, plan_words, state_text};
+ghost use Rattle.wh_render.specs.Pieces.{more_words, spaced};
+
+use crate::words::{push_named, push_number, push_printed};
+use std::alloc::AllocError;
+use wh_base::replies::PlanLine;
+use wh_base::statements::Method;
+use wh_base::txt::Txt;
+use wh_base::views::{Class, ViewState};
+
+/// The name of a method of refresh.
+pub fn method_text(method: Method) -> &'static str
+    ensures { result.now ≡ method_text method }
+{
+    match method {
+        Method::Fast => "FAST",
+        Method::Complete => "COMPLETE",
+        Method::Partition => "PARTITION",
+        Method::Force => "FORCE",
+    }
+}
+
+/// The name of a class of rewrite.
+pub fn class_text(class: Class) -> &'static str
+    ensures { result.now ≡ class_text class }
+{
+    match class {
+        Class::Full => "FULL",
+        Class::Partial => "PARTIAL",
+        Class::General => "GENERAL",
+        Class::JoinBack => "JOINBACK",
+    }
+}
+
+/// The name of a view's state.
+pub fn state_text(state: ViewState) -> &'static str
+    ensures { result.now ≡ state_text state }
+{
+    match state {
+        ViewState::Unbuilt => "UNBUILT",
+        ViewState::Fresh => "FRESH",
+        ViewState::Partly => "PARTLY",
+        ViewState::Stale => "STALE",
+    }
+}
+
+/// A view at its point.
+fn push_view_at(out: &mut Vec<u8>, view: &Txt, point: u64) -> Result<(), AllocError>
+    ensures { OnOk result (out.new.items
+        ≡ out.old.items ++ spaced (view.now ++ 64 ∷ decimal point)) }
+{
+    out.push(b' ')?;
+    out.extend_from_slice(view.as_slice())?;
+    out.push(b'@')?;
+    push_number(out, point)?;
+    Ok(())
+}
+
+/// PLAN and the plan.
+pub fn push_plan(out: &mut Vec<u8>, plan: &PlanLine) -> Result<(), AllocError>
+    ensures { OnOk result (out.new.items ≡ out.old.items ++ more_words (plan_words plan.now)) }
+{
+    match plan {
+        PlanLine::BasePlan => {
+            push_named(out, b"PLAN", b"BASE")?;
+            Ok(())
+        }
+        PlanLine::ViewAt(class, view, point, backs) => {
+            push_named(out, b"PLAN", class_text(*class).as_bytes())?;
+            push_view_at(out, view, *point)?;
+            push_printed(out, backs)?;
+            Ok(())
+        }
+    }
+}
