@@ -1,0 +1,15 @@
+#!/usr/bin/env bash
+# The worked rows, where they lie beside the repository: each script must answer as its row says.
+stage=1 # the rows that can be run by now
+cd "$(dirname "${BASH_SOURCE[0]}")/../.." || exit 1
+rows=../shared/rows/run_rows.py
+if [ ! -e "$rows" ]; then
+  echo "rows: skipped, $rows isn't there"
+  exit 0
+fi
+program=$(bash .ci/program) || exit 1
+if [ -z "$program" ]; then
+  echo "rows: skipped, there is no program yet"
+  exit 0
+fi
+python3 "$rows" --program "$program" --stage "$stage"

@@ -1,0 +1,216 @@
+#!/usr/bin/env python3
+"""Times mviewdb against SQLite on the same statements. README.md beside this file says what is compared."""
+
+import argparse
+import os
+import re
+import shutil
+import statistics
+import subprocess
+import sys
+import tempfile
+import threading
+import time
+from collections.abc import Callable, Iterator
+from concurrent.futures import Executor, ProcessPoolExecutor
+from dataclasses import dataclass
+from pathlib import Path
+
+ROOT = Path(__file__).resolve().parent.parent
+RUNS = 5
+LIMIT = 300  # seconds that a run may take
+MEGABYTE = 1_000_000
+
+
+@dataclass(frozen=True)
+class Case:
+    """Statements in mviewdb's SQL, each without its semicolon, for a number of rows."""
+
+    name: str
+    rows: int
+    statements: Callable[[int], Iterator[str]]
+
+
+def sales(first: int, count: int) -> str:
+    """Rows of (G VARCHAR2(10), A NUMBER): 1,000 groups, and each 50th amount is NULL."""
+    amounts = ((row, "NULL" if row % 50 == 0 else str(row * 7919 % 100_003)) for row in range(first, first + count))
+    return ", ".join(f"('G{row * 31 % 1000:03}', {amount})" for row, amount in amounts)
+
+
+def totals(rows: int) -> Iterator[str]:
+    """One table, filled by INSERT statements of 1,000 rows each, and three grouped queries."""
+    yield "CREATE TABLE SALES (G VARCHAR2(10), A NUMBER)"
+    for first in range(0, rows, 1000):
+        yield f"INSERT INTO SALES VALUES {sales(first, min(1000, rows - first))}"
+    yield "SELECT G, SUM(A), COUNT(*) FROM SALES GROUP BY G"
+    yield "SELECT G, COUNT(*) FROM SALES GROUP BY G"
+    yield "SELECT A, COUNT(*) FROM SALES GROUP BY A"
+
+
+def one_insert(rows: int) -> Iterator[str]:
+    """One table, one INSERT of all rows, and one grouped query."""
+    yield "CREATE TABLE SALES (G VARCHAR2(10), A NUMBER)"
+    yield f"INSERT INTO SALES VALUES {sales(0, rows)}"
+    yield "SELECT G, SUM(A), COUNT(*) FROM SALES GROUP BY G"
+
+
+# Each case stands here twice, with ten times more rows, so that it is seen how the time grows.
+CASES = [
+    Case("totals", 20_000, totals),
+    Case("totals", 200_000, totals),
+    Case("one insert", 20_000, one_insert),
+    Case("one insert", 200_000, one_insert),
+]
+
+
+def mviewdb_script(statements: Iterator[str]) -> Iterator[str]:
+    yield "@setup\n"
+    for statement in statements:
+        yield statement + ";\n"
+    yield "@end\n"
+
+
+def sqlite_script(statements: Iterator[str]) -> Iterator[str]:
+    """The same statements, with SQLite's names of the types."""
+    for statement in statements:
+        if statement.startswith("CREATE TABLE"):
+            statement = re.sub(r"VARCHAR2\(\d+\)", "TEXT", statement)
+            statement = re.sub(r"NUMBER(\(\d+\))?", "INTEGER", statement)
+        yield statement + ";\n"
+
+
+def write_scripts(case: Case, ours: Path, theirs: Path) -> int:
+    """Writes the case's script for each program, and returns the bytes of mviewdb's."""
+    for path, form in ((ours, mviewdb_script), (theirs, sqlite_script)):
+        with open(path, "w", encoding="utf-8") as file:
+            file.writelines(form(case.statements(case.rows)))
+    return ours.stat().st_size
+
+
+def answer_rows(transcript: Path) -> Iterator[str]:
+    """The rows of the answers in a transcript, without its headers."""
+    left = 0
+    with open(transcript, encoding="utf-8") as lines:
+        for line in lines:
+            header = re.fullmatch(r"\d+\.\d+ ANSWER .* ROWS (\d+)\n", line)
+            if left > 0:
+                yield line
+                left -= 1
+            elif header:
+                left = int(header[1])
+
+
+def answers_agree(transcript: Path, rows: Path) -> bool:
+    """Whether both programs answered the same rows, in whatever order."""
+    with open(rows, encoding="utf-8") as lines:
+        return sorted(answer_rows(transcript)) == sorted(lines)
+
+
+@dataclass(frozen=True)
+class Run:
+    status: int
+    seconds: float
+    peak: int  # bytes
+    errors: str
+
+
+def run(command: list[str], script: Path, output: Path) -> Run:
+    """One run of a program that reads the script: its time from start to end, and its peak memory."""
+    with open(script, "rb") as source, open(output, "wb") as sink, tempfile.TemporaryFile() as errors:
+        started = time.perf_counter()
+        child = subprocess.Popen(command, stdin=source, stdout=sink, stderr=errors)
+        watch = threading.Timer(LIMIT, child.kill)
+        watch.start()
+        _, state, usage = os.wait4(child.pid, 0)
+        seconds = time.perf_counter() - started
+        watch.cancel()
+        child.returncode = os.waitstatus_to_exitcode(state)
+        errors.seek(0)
+        text = errors.read().decode(errors="replace").strip()
+        if seconds >= LIMIT:
+            text = f"stopped after {LIMIT} seconds"
+    return Run(child.returncode, seconds, usage.ru_maxrss * 1024, text)
+
+
+def runs(command: list[str], script: Path, output: Path) -> list[Run]:
+    """Several runs, or those up to the first one that failed."""
+    found = []
+    for _ in range(RUNS):
+        found.append(run(command, script, output))
+        if found[-1].status != 0:
+            break
+    return found
+
+
+def measure(case: Case, program: Path, sqlite: str, folder: Path, worker: Executor) -> tuple[str, ...]:
+    """The cells of one line of the table, or fewer where the case can't be compared, the last of them the reason.
+
+    What takes memory is done by the worker, another process: a child's peak begins with what this process holds.
+    """
+    ours, theirs, transcript, rows = (folder / name for name in ("ours.sql", "theirs.sql", "ours.out", "theirs.out"))
+    size = worker.submit(write_scripts, case, ours, theirs).result()
+    head = (case.name, f"{case.rows:,}")
+    mine = runs([str(program), "order"], ours, transcript)
+    if mine[-1].status != 0:
+        return (*head, f"mviewdb ended with status {mine[-1].status}: {mine[-1].errors}")
+    other = runs([sqlite, "-batch", "-list", "-separator", "|", ":memory:"], theirs, rows)
+    if other[-1].status != 0:
+        return (*head, f"sqlite3 ended with status {other[-1].status}: {other[-1].errors}")
+    if not worker.submit(answers_agree, transcript, rows).result():
+        return (*head, "the answers differ")
+    mine_seconds, other_seconds = (statistics.median(it.seconds for it in found) for found in (mine, other))
+    peak = max(it.peak for it in mine)
+    return (
+        *head,
+        f"{mine_seconds:.3f}",
+        f"{other_seconds:.3f}",
+        f"{mine_seconds / other_seconds:.1f}",
+        f"{peak / MEGABYTE:.1f}",
+        f"{size / MEGABYTE:.2f}",
+        f"{peak / size:.1f}",
+    )
+
+
+HEAD = ("case", "rows", "mviewdb s", "sqlite3 s", "ratio", "memory MB", "script MB", "memory/script")
+
+
+def show(cells: tuple[str, ...]) -> None:
+    name, rows, *rest = cells
+    if len(cells) < len(HEAD):
+        print(f"{name:<12}{rows:>9}  {rest[0]}", flush=True)
+        return
+    numbers = "".join(f"{cell:>{len(title) + 2}}" for cell, title in zip(rest, HEAD[2:]))
+    print(f"{name:<12}{rows:>9}{numbers}", flush=True)
+
+
+def built_program() -> Path:
+    """The program as the launcher keeps it, which proves and builds it first where that is needed."""
+    built = subprocess.run([ROOT / "mviewdb", "order"], input=b"@end\n", stdout=subprocess.DEVNULL)
+    if built.returncode == 70:
+        sys.exit("mviewdb couldn't be built")
+    return ROOT / "out" / "mviewdb"
+
+
+def main() -> int:
+    parser = argparse.ArgumentParser(description=__doc__)
+    parser.add_argument("--program", type=Path, help="the program to time (else the one that ./mviewdb builds)")
+    parser.add_argument("--case", action="append", help="only the cases of this name; may be given again")
+    given = parser.parse_args()
+    sqlite = shutil.which("sqlite3")
+    if sqlite is None:
+        print("skipped: sqlite3 isn't installed (Debian: apt-get install sqlite3)")
+        return 0
+    program = given.program or built_program()
+    cases = [case for case in CASES if given.case is None or case.name in given.case]
+    show(HEAD)
+    with tempfile.TemporaryDirectory() as folder, ProcessPoolExecutor(1) as worker:
+        for case in cases:
+            show(measure(case, program, sqlite, Path(folder), worker))
+        floor = run(["true"], Path(os.devnull), Path(os.devnull)).peak
+    version = subprocess.run([sqlite, "--version"], stdout=subprocess.PIPE, text=True, check=True).stdout.split()[0]
+    print(f"\nMedian of {RUNS} runs; SQLite {version}. Memory below {floor / MEGABYTE:.1f} MB isn't seen.")
+    return 0
+
+
+if __name__ == "__main__":
+    sys.exit(main())
