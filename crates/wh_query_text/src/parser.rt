@@ -1,5 +1,5 @@
 ghost use Rattle.std.specs.List.{list_all, list_any};
-ghost use Rattle.std.specs.Prelude.{◌≡◌, ◌-◌, ◌<◌, ◌^◌, IfOk, List, length, nat_abs, pos, take, true, unwrap_or};
+ghost use Rattle.std.specs.Prelude.{◌≡◌, ◌-◌, ◌<◌, ◌^◌, IfErr, IfOk, List, length, nat_abs, pos, take, true, unwrap_or};
 ghost use Rattle.def_grammar.specs.Reading.{is_name, is_token, mapped, mark, name, number, quoted, reserved, spelled, token_where, word};
 ghost use Rattle.wh_base.specs.Lists.{has_text, same_text};
 ghost use Rattle.wh_base.specs.Values.{digits_number};
@@ -57,7 +57,7 @@ impl<'a> Parser<'a> {
         }
     }
 
-    /// What memory is taken from.
+    /// The allocator that texts and lists are taken from.
     pub fn alloc(&self) -> Global {
         self.alloc
     }
@@ -120,6 +120,7 @@ impl<'a> Parser<'a> {
     pub fn number(&mut self) -> Result<u128, ParseFault>
         ensures gives { Gives result self.new (number self.old) }
         ensures small { IfOk result (λ n. n < 10 ^ 38) }
+        ensures fault { IfErr result (λ e. e ≡ ParseFault.Syntax) }
     {
         match self.rest.first() {
             Some(token) if token.kind == TokenKind::Number => {
@@ -135,6 +136,7 @@ impl<'a> Parser<'a> {
     pub fn integer(&mut self) -> Result<i128, ParseFault>
         ensures gives { Gives result self.new (mapped pos number self.old) }
         ensures small { IfOk result (λ n. nat_abs n < 10 ^ 38) }
+        ensures fault { IfErr result (λ e. e ≡ ParseFault.Syntax) }
     {
         let n = self.number()?;
         Ok(n as i128)
