@@ -120,3 +120,17 @@ replies_from s (e ∷ es) = let x = event_step s e in given_by e x.reply ++ repl
 -- The replies of a trace.
 abbrev pub replies_of : List Event → List Told
 replies_of trace = replies_from empty_state trace
+
+-- The commands of a trace, in the order of its entries.
+abbrev pub commands_of : List Event → List Command
+commands_of trace = map (λ e. e.command) trace
+
+-- ---- one event more
+
+-- The event of a command of a session that has one part.
+abbrev pub event_of : Id → Command → Event
+event_of id command = record { entry = record { session = id.session; command = id.command; part = 1 }; command = command }
+
+-- The reply of an event after a trace.
+abbrev pub reply_to : List Event → Event → Option Reply
+reply_to trace e = (event_step (state_of trace) e).reply

@@ -9,7 +9,7 @@ use Rattle.std.specs.List.{list_all}
 use Rattle.def_built.specs.Commands.{block_insert, commands_are_built, first_is_built, insert_is_built, later_is_built, most_rows, query_is_built, rows_inserted, table_is_built}
 use Rattle.def_effect.specs.Block.{column_refusal, fits_kind, given_row_refusal}
 use Rattle.def_effect.specs.Define.{table_def}
-use Rattle.def_journal.specs.Journal.{state_after, state_of}
+use Rattle.def_journal.specs.Journal.{commands_of, event_of, reply_to, state_after, state_of}
 use Rattle.def_journal.specs.State.{empty_state}
 use Rattle.def_resolve.specs.Resolve.{resolve}
 use Rattle.wh_base.specs.Lists.{first_of, first_some, option_case, same_text, where_true}
@@ -35,7 +35,7 @@ use Rattle.wh_base.specs.declared.tables.TableDef.{TableDef}
 use Rattle.wh_base.specs.declared.values.Literal.{Literal}
 use Rattle.wh_base.specs.declared.values.Value.{Value}
 use Rattle.wh_base.specs.declared.values.Value.TheVariants.{Null, Num, Ratio, Text}
-use Rattle.wh_core.specs.Plain.{HasSmallKinds, Held, IsCore, IsSimple, all_places, commands_of, event_of, given_rows, insert_command, insert_refusal, inserted_reply, is_run, kind_is_small, reply_to, row_refusal, rows_left, rows_of, rows_refusal, rows_told, scn_left, selected_reply, table_of, tables_of}
+use Rattle.wh_core.specs.Plain.{HasSmallKinds, Held, IsCore, IsSimple, all_places, given_rows, insert_command, insert_refusal, inserted_reply, is_run, kind_is_small, row_refusal, rows_left, rows_of, rows_refusal, rows_told, scn_left, selected_reply, table_of, tables_of}
 use Rattle.wh_core.proofs.Answering.{selects}
 use Rattle.wh_core.proofs.Creating.{plain_table, small_table}
 use Rattle.wh_core.proofs.Inserting.{first_none, insert_all, length_append, length_map, right_number}

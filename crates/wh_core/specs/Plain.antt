@@ -7,7 +7,7 @@ use Rattle.def_effect.specs.Block.{column_refusal, fits_kind, given_row_refusal}
 use Rattle.def_history.specs.Catalog.{base_now}
 use Rattle.def_journal.specs.State.{State}
 use Rattle.def_built.specs.Commands.{agg_is_built, plain_name, rows_inserted}
-use Rattle.def_journal.specs.Journal.{event_step, state_of}
+use Rattle.def_journal.specs.Journal.{commands_of, state_of}
 use Rattle.def_resolve.specs.Kinds.{agg_refusal, agrees, sort_of_kind, value_sort}
 use Rattle.def_resolve.specs.Names.{Source, column_named, name_refusal, what_names}
 use Rattle.def_resolve.specs.Resolve.{resolved_item, what_refusal}
@@ -35,7 +35,6 @@ use Rattle.wh_base.specs.declared.replies.Reply.TheVariants as reply
 use Rattle.def_meaning.specs.Meaning.{meaning_over}
 use Rattle.wh_eval.specs.Listed.{listed_rows}
 use Rattle.wh_base.specs.declared.statements.Event.{Event}
-use Rattle.wh_base.specs.declared.statements.Id.{Id}
 use Rattle.wh_base.specs.declared.statements.InsertRows.{InsertRows}
 use Rattle.wh_base.specs.declared.statements.NewColumn.{NewColumn}
 use Rattle.wh_base.specs.declared.statements.Statement.{Statement}
@@ -257,9 +256,6 @@ abbrev pub IsSound : Option Held → Type 0
 IsSound None = Unit {0}
 IsSound (Some h) = IsPlain h.0 × HasSmallKinds h.0
 
-abbrev pub commands_of : List Event → List Command
-commands_of trace = map (λ e. e.command) trace
-
 -- how many rows the INSERTs of a trace have
 abbrev pub rows_told : List Event → ℕ
 rows_told trace = sum_by rows_inserted (commands_of trace)
@@ -271,14 +267,6 @@ pub record IsCore (scn : ℕ) (table : Option Held) (trace : List Event) : Type 
   pub few : length (rows_of table) ≤ rows_told trace
   pub low : scn ≤ length trace
   pub begun : table ≡ None → trace ≡ []
-
--- the event of a command of a session, in its one part
-abbrev pub event_of : Id → Command → Event
-event_of id command = record { entry = record { session = id.session; command = id.command; part = 1 }; command = command }
-
--- the reply of an event after a trace
-abbrev pub reply_to : List Event → Event → Option Reply
-reply_to trace e = (event_step (state_of trace) e).reply
 
 -- the statements by themselves that are run: CREATE TABLE and SELECT
 abbrev pub is_run : Statement → Bool

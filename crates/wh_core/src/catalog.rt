@@ -2,7 +2,8 @@ ghost use Rattle.std.specs.Prelude.{◌≡◌, ◌≤◌, ◌+◌, ◌^◌, [], 
 ghost use Rattle.def_built.specs.Commands.{block_insert, commands_are_built, most_rows, query_is_built};
 ghost use Rattle.def_resolve.specs.Resolve.{resolve};
 ghost use Rattle.def_output.specs.Reads.{read_of};
-ghost use Rattle.wh_core.specs.Plain.{HasSmallKinds, commands_of, event_of, given_rows, insert_command, insert_refusal, is_run, reply_to, rows_left, selected_reply};
+ghost use Rattle.def_journal.specs.Journal.{commands_of, event_of, reply_to};
+ghost use Rattle.wh_core.specs.Plain.{HasSmallKinds, given_rows, insert_command, insert_refusal, is_run, rows_left, selected_reply};
 
 use crate::create::table_of;
 use crate::insert::{append_rows, insert_refusal};
@@ -90,8 +91,8 @@ impl<L> Core<L> {
     /// The step of the next command of a session: it enters the journal, takes effect and is answered. A CREATE TABLE
     /// answers `DONE`, an INSERT `COMMITTED` or its first refusal (MV-02 for another table; then row by row MV-04 for a
     /// wrong number of values or a value of another kind; then MV-04 for a size), a SELECT its rows or its first refusal
-    /// (MV-02, MV-03, MV-04). Only a SELECT reads base rows, each once, and so at most `most_rows`. An error says that memory ran out; then the
-    /// catalog is as it was.
+    /// (MV-02, MV-03, MV-04). Only a SELECT reads base rows, each once. An error says that memory ran out; then the
+    /// catalog is as it was, and some rows may have been read. At most `most_rows` are read in any case.
     ///
     /// The commands so far and this one must be of those that are built so far.
     #[tactic(auto, using(crate::proofs::Core::next))]
@@ -106,7 +107,8 @@ impl<L> Core<L> {
         requires room { reads.old ≤ 2 ^ 63 }
         ensures reply { IfOk result (λ r. reply_to self.old (event_of id command.now) ≡ Some r) }
         ensures raised { IfOk result (λ r. reads.new ≡ reads.old + read_of r) }
-        ensures few { IfOk result (λ r. read_of r ≤ most_rows) }
+        ensures least { reads.old ≤ reads.new }
+        ensures most { reads.new ≤ reads.old + most_rows }
         ensures ok { OnOk result (self.new ≡ self.old ++ event_of id command.now ∷ []) }
         ensures err { OnErr result (self.new ≡ self.old) }
     {
@@ -132,7 +134,8 @@ impl<L> Core<L> {
         requires room { reads.old ≤ 2 ^ 63 }
         ensures reply { IfOk result (λ r. reply_to self.old (event_of id command.now) ≡ Some r) }
         ensures raised { IfOk result (λ r. reads.new ≡ reads.old + read_of r) }
-        ensures few { IfOk result (λ r. read_of r ≤ most_rows) }
+        ensures least { reads.old ≤ reads.new }
+        ensures most { reads.new ≤ reads.old + most_rows }
         ensures ok { OnOk result (self.new ≡ self.old ++ event_of id command.now ∷ []) }
         ensures err { OnErr result (self.new ≡ self.old) }
     {
@@ -227,7 +230,8 @@ impl<L> Core<L> {
         requires room { reads.old ≤ 2 ^ 63 }
         ensures reply { IfOk result (λ r. reply_to self.old (event_of id command.now) ≡ Some r) }
         ensures raised { IfOk result (λ r. reads.new ≡ reads.old + read_of r) }
-        ensures few { IfOk result (λ r. read_of r ≤ most_rows) }
+        ensures least { reads.old ≤ reads.new }
+        ensures most { reads.new ≤ reads.old + most_rows }
         ensures ok { OnOk result (self.new ≡ self.old ++ event_of id command.now ∷ []) }
         ensures err { OnErr result (self.new ≡ self.old) }
     {
@@ -294,10 +298,12 @@ fn answer<L>(
     reads: &mut Reads<L>,
 ) -> Result<Reply, AllocError>
     requires built { IsTrue (query_is_built query.now) }
+    requires few { length table.now.rows ≤ most_rows }
     requires room { reads.old ≤ 2 ^ 63 }
     ensures reply { IfOk result (λ r. r ≡ selected_reply scn table.now.rows (resolve (table.now.def ∷ []) query.now)) }
     ensures raised { IfOk result (λ r. reads.new ≡ reads.old + read_of r) }
-    ensures few { IfOk result (λ r. read_of r ≤ length table.now.rows) }
+    ensures least { reads.old ≤ reads.new }
+    ensures most { reads.new ≤ reads.old + most_rows }
 {
     match query_of(alloc, &table.def, query)? {
         Ok(star) => {

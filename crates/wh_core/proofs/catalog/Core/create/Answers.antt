@@ -1,7 +1,7 @@
 use Rattle.std.proofs.Common.{◌≡◌, subst, arith, List, Some, ◌+◌}
 use Rattle.wh_base.specs.declared.replies.Reply.TheVariants as reply
 use Rattle.wh_base.specs.declared.statements.Event.{Event}
-use Rattle.wh_core.specs.Plain.{event_of, reply_to}
+use Rattle.def_journal.specs.Journal.{event_of, reply_to}
 use Rattle.wh_core.proofs.Core.{built_table, created_by}
 use Rattle.wh_core.proofs.catalog.Core.create.Goals as goal
 

@@ -1,7 +1,8 @@
 use Rattle.std.proofs.Common.{◌≡◌, ◌∙◌, sym, ap, subst, arith, suc, ◌+◌, [], Option, None, Some, length}
 use Rattle.std.specs.Prelude.{option_map}
 use Rattle.wh_base.specs.declared.replies.Reply.TheVariants as reply
-use Rattle.wh_core.specs.Plain.{IsCore, event_of, given_rows, insert_refusal, inserted_reply, reply_to, rows_left, scn_left}
+use Rattle.def_journal.specs.Journal.{event_of, reply_to}
+use Rattle.wh_core.specs.Plain.{IsCore, given_rows, insert_refusal, inserted_reply, rows_left, scn_left}
 use Rattle.wh_core.specs.declared.catalog.Stored.{Stored}
 use Rattle.wh_core.proofs.Core.{inserted_by}
 use Rattle.wh_core.proofs.catalog.Core.insert.Goals as goal

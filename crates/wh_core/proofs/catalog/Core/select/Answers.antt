@@ -1,6 +1,7 @@
-use Rattle.std.proofs.Common.{◌≡◌, ◌∙◌, sym, ap, subst, arith, [], ◌∷◌, ◌++◌, Option, Some}
+use Rattle.std.proofs.Common.{◌≡◌, ◌∙◌, sym, ap, subst, [], ◌∷◌, ◌++◌, Option, Some}
 use Rattle.std.specs.Prelude.{option_map}
-use Rattle.wh_core.specs.Plain.{IsCore, event_of, reply_to}
+use Rattle.def_journal.specs.Journal.{event_of, reply_to}
+use Rattle.wh_core.specs.Plain.{IsCore}
 use Rattle.wh_core.specs.declared.catalog.Stored.{Stored}
 use Rattle.wh_core.proofs.Core.{built_query, few_rows, selected_by}
 use Rattle.wh_core.proofs.catalog.Core.select.Goals as goal
@@ -25,9 +26,9 @@ returns-clause-reply g c =
     let told : reply_to c.self.inside.trace (event_of c.args.id c.args.command.now) ≡ Some c.in_ok-reply.reply = made ∙ ap Some (sym c.in_ok-reply.ensures.reply) in
     subst (λ x. reply_to x (event_of c.args.id c.args.command.now) ≡ Some c.in_ok-reply.reply) c.self.view_is told
 
-pub returns-clause-few : goal.returns-clause-few
-returns-clause-few g c =
+pub answer-requires-clause-few : goal.answer-requires-clause-few
+answer-requires-clause-few g c =
     let stored : Type 0 = Stored g.row.L.Denot in
     let IsKept : Option stored → Type 0 = λ o. IsCore c.self.inside.scn (option_map (λ t. (t.def, t.rows)) o) c.self.inside.trace in
     let core : IsKept (Some c.in-Some.table) = subst IsKept c.in-Some.is c.self.invariant in
-    omega (arith, c.in_ok-reply.ensures.few, few_rows c.self.inside.scn c.in-Some.table.def c.in-Some.table.rows c.self.inside.trace c.args.command.now (rw c.self.view_is c.requires.next) core)
+    few_rows c.self.inside.scn c.in-Some.table.def c.in-Some.table.rows c.self.inside.trace c.args.command.now (rw c.self.view_is c.requires.next) core
