@@ -1,7 +1,7 @@
 -- What the events of a setup are, and how its transcript comes together from the replies in their order.
 use Rattle.std.proofs.Common.{◌≡◌, ◌∙◌, sym, ap, subst, refl, arith, ℕ, suc, zero, ◌+◌, ◌-◌, List, [], ◌∷◌, ◌++◌, length, map, take, Some}
 use Rattle.std.proofs.lemmas.Grind.{flat_map-append}
-use Rattle.def_journal.specs.Journal.{Told, event_step, command_of, given_by, no_command, order_of, replies_from, replies_of, state_after, trace_of}
+use Rattle.def_journal.specs.Journal.{Told, event_of, event_step, command_of, reply_to, given_by, no_command, order_of, replies_from, replies_of, state_after, trace_of}
 use Rattle.def_journal.specs.State.{State, empty_state}
 use Rattle.def_output.specs.Reads.{read_of, reads_of, session_reads, told_to}
 use Rattle.def_transcript.specs.Texts.{journal_line, lines_text, reply_lines}
@@ -9,7 +9,7 @@ use Rattle.std.specs.Prelude.{get_or, nat_le, sum_by, fold, flat_map, filter, sl
 use Rattle.std.specs.List.{enumerate_from, list_all}
 use Rattle.std.proofs.lemmas.Bool.{and_parts}
 use Rattle.std.proofs.Math.Seq.{take-suc}
-use Rattle.std.proofs.lemmas.List.{length-take-le}
+use Rattle.std.proofs.lemmas.List.{append-nil, append_assoc, length-take-le, map-append}
 use Rattle.std.proofs.lemmas.Bool.Decides.{nat_tests}
 use Rattle.std.proofs.lemmas.List.Sums.{sum_by-cons}
 use Rattle.def_built.specs.Commands.{commands_are_built, first_is_built, later_is_built, most_rows, rows_inserted}
@@ -25,16 +25,7 @@ use Rattle.wh_base.specs.declared.statements.Entry.{Entry}
 use Rattle.wh_base.specs.declared.statements.Event.{Event}
 use Rattle.wh_base.specs.declared.statements.Script.{Script}
 use Rattle.wh_base.specs.declared.statements.Id.{Id}
-use Rattle.wh_core.specs.Plain.{event_of, reply_to}
 use Rattle.wh_top.specs.Top.{AreTold, events_from, setup_events, setup_id, told_text}
-
-append_nil : {A : Type 0} (xs : List A) → xs ++ [] ≡ xs
-append_nil [] = refl
-append_nil (x ∷ xs) = ap (λ ys. x ∷ ys) (append_nil xs)
-
-append_assoc : {A : Type 0} (xs ys zs : List A) → (xs ++ ys) ++ zs ≡ xs ++ (ys ++ zs)
-append_assoc [] ys zs = refl
-append_assoc (x ∷ xs) ys zs = ap (λ l. x ∷ l) (append_assoc xs ys zs)
 
 pub events_push : (n : ℕ) (cs : List Command) (c : Command) → events_from n (cs ++ c ∷ []) ≡ events_from n cs ++ event_of (setup_id (n + length cs)) c ∷ []
 events_push n [] c = let same : n ≡ n + 0 = omega arith in ap (λ k. event_of (setup_id k) c ∷ []) same
@@ -43,7 +34,7 @@ events_push n (x ∷ xs) c =
     ap (λ es. event_of (setup_id n) x ∷ es) (events_push (suc n) xs c ∙ ap (λ k. events_from (suc n) xs ++ event_of (setup_id k) c ∷ []) same)
 
 replies_from_push : (s : State) (trace : List Event) (e : Event) → replies_from s (trace ++ e ∷ []) ≡ replies_from s trace ++ given_by e (event_step (fold state_after s trace) e).reply
-replies_from_push s [] e = append_nil (given_by e (event_step s e).reply)
+replies_from_push s [] e = append-nil (given_by e (event_step s e).reply)
 replies_from_push s (x ∷ xs) e =
     let given : List Told = given_by x (event_step s x).reply in
     ap (λ ts. given ++ ts) (replies_from_push (state_after s x) xs e) ∙ sym (append_assoc given (replies_from (state_after s x) xs) (given_by e (event_step (fold state_after (state_after s x) xs) e).reply))
@@ -55,7 +46,7 @@ replies_push trace e r is = replies_from_push empty_state trace e ∙ ap (λ o. 
 pub told_push : (told : List Told) (t : Told) → told_text (told ++ t ∷ []) ≡ told_text told ++ lines_text (reply_lines t.id t.reply)
 told_push told t =
     let lines : Told → List (List ℕ) = λ u. reply_lines u.id u.reply in
-    ap lines_text (flat_map-append lines told (t ∷ [])) ∙ flat_map-append (λ l. l ++ 10 ∷ []) (flat_map lines told) (flat_map lines (t ∷ [])) ∙ ap (λ ls. told_text told ++ lines_text ls) (append_nil (lines t))
+    ap lines_text (flat_map-append lines told (t ∷ [])) ∙ flat_map-append (λ l. l ++ 10 ∷ []) (flat_map lines told) (flat_map lines (t ∷ [])) ∙ ap (λ ls. told_text told ++ lines_text ls) (append-nil (lines t))
 
 pub reads_push : (told : List Told) (t : Told) → reads_of (told ++ t ∷ []) ≡ reads_of told + read_of t.reply
 reads_push [] t = omega (arith, sum_by-cons (λ u. read_of u.reply) t [])
@@ -108,7 +99,7 @@ lines_apart k (suc m) (t ∷ ts) h =
     let is : t.id ≡ setup_id k = heads h in
     let same : same_id t.id (setup_id k) ≡ true = ap (λ i. same_id i (setup_id k)) is ∙ itself k in
     let none : filter (λ g. same_id g.id (setup_id k)) ts ≡ [] = none_of k (suc k) m ts (omega arith) (tails h) in
-    let here : lines_of (t ∷ ts) (setup_id k) ≡ lines t = rw (same, none) (append_nil (lines t)) in
+    let here : lines_of (t ∷ ts) (setup_id k) ≡ lines t = rw (same, none) (append-nil (lines t)) in
     let rest : flat_map (lines_of (t ∷ ts)) (map setup_id (count_from (suc k) m)) ≡ flat_map lines ts = skip t ts k (suc k) m (omega arith) is ∙ lines_apart (suc k) m ts (tails h) in
     rw (here, rest) refl
 
@@ -169,7 +160,7 @@ all_built (c ∷ cs) h =
 order_is : (cs : List Command) → commands_are_built cs ≡ true → order_of (setup_of cs) ≡ map (λ e. e.entry) (setup_events cs)
 order_is cs built =
     let entries : List Entry = flat_map (command_entries 0) (enumerate_from 1 cs) in
-    append_nil (entries ++ []) ∙ append_nil entries ∙ entries_from 1 cs (all_built cs built)
+    append-nil (entries ++ []) ∙ append-nil entries ∙ entries_from 1 cs (all_built cs built)
 
 trace_is : (cs : List Command) → commands_are_built cs ≡ true → trace_of (setup_of cs) (order_of (setup_of cs)) ≡ setup_events cs
 trace_is cs built = ap (trace_of (setup_of cs)) (order_is cs built) ∙ commands_found [] cs
@@ -183,7 +174,7 @@ setup_transcript cs built told =
     let line : List (List ℕ) = journal_line (order_of script) ∷ [] in
     let lines : Told → List (List ℕ) = λ u. reply_lines u.id u.reply in
     ap (λ t. lines_text (flat_map (lines_of (replies_of t)) (ids ++ []) ++ line)) (trace_is cs built)
-    ∙ ap (λ is. lines_text (flat_map (lines_of given) is ++ line)) (append_nil ids)
+    ∙ ap (λ is. lines_text (flat_map (lines_of given) is ++ line)) (append-nil ids)
     ∙ ap (λ ls. lines_text (ls ++ line)) (lines_apart 1 (length cs) given told)
     ∙ flat_map-append (λ l. l ++ 10 ∷ []) (flat_map lines given) line
     ∙ ap (λ j. told_text given ++ lines_text (journal_line j ∷ [])) (order_is cs built)
@@ -221,10 +212,6 @@ count_push k (suc n) =
     let same : suc k + n ≡ k + suc n = omega arith in
     ap (λ js. k ∷ js) (count_push (suc k) n ∙ ap (λ j. count_from (suc k) n ++ j ∷ []) same)
 
-map_push : {A B : Type 0} (f : A → B) (xs : List A) (x : A) → map f (xs ++ x ∷ []) ≡ map f xs ++ f x ∷ []
-map_push f [] x = refl
-map_push f (y ∷ ys) x = ap (λ zs. f y ∷ zs) (map_push f ys x)
-
 -- the commands up to a place, and the one there
 pub step_trace : (cs : List Command) (i : ℕ) (d : Command) → i < length cs → setup_events (take (suc i) cs) ≡ setup_events (take i cs) ++ event_of (setup_id (suc i)) (get_or cs i d) ∷ []
 step_trace cs i d low =
@@ -238,4 +225,4 @@ step_trace cs i d low =
 pub step_told : (n : ℕ) (told : List Told) (r : Reply) → AreTold n told → AreTold (suc n) (told ++ record { id = setup_id (suc n); reply = r } ∷ [])
 step_told n told r h =
     let same : 1 + n ≡ suc n = omega arith in
-    map_push told_id told (record { id = setup_id (suc n); reply = r }) ∙ ap (λ is. is ++ setup_id (suc n) ∷ []) h ∙ sym (ap (map setup_id) (count_push 1 n ∙ ap (λ k. count_from 1 n ++ k ∷ []) same) ∙ map_push setup_id (count_from 1 n) (suc n))
+    map-append told_id told (record { id = setup_id (suc n); reply = r } ∷ []) ∙ ap (λ is. is ++ setup_id (suc n) ∷ []) h ∙ sym (ap (map setup_id) (count_push 1 n ∙ ap (λ k. count_from 1 n ++ k ∷ []) same) ∙ map-append setup_id (count_from 1 n) (suc n ∷ []))

@@ -1,2 +1,10 @@
-//! The top: what the events of a script with a setup alone are, and how its transcript comes together from its replies.
+//! The top call: a script from a source, run in the order that the form `order` gives it, its transcript to a sink.
 #![tactic(auto)]
+
+mod output;
+mod setup;
+#[cfg(test)]
+mod tests;
+mod top;
+
+pub use top::{Status, top_order};

@@ -1,0 +1,54 @@
+-- How a call of the program ends.
+use Rattle.std.specs.Prelude.{Err, Ok, Result, ℕ}
+use Rattle.wh_base.specs.declared.statements.BadScript.{BadScript}
+use Rattle.wh_base.specs.declared.statements.ScriptKind.{ScriptKind}
+use Rattle.wh_script.specs.declared.script.ScriptFault.{ScriptFault}
+use Rattle.wh_script.specs.declared.script.ScriptFault.TheVariants as faults
+use Rattle.wh_top.specs.declared.top.Status.{Status}
+use Rattle.wh_top.specs.declared.top.Status.TheVariants as statuses
+
+-- what is known of the line and the kind where the bytes are no script
+abbrev pub IfBadScript : Status → (ℕ → ScriptKind → Type 0) → Type 0
+IfBadScript (statuses.BadScript line kind) P = P line kind
+IfBadScript statuses.Done P = Unit {0}
+IfBadScript statuses.NoMemory P = Unit {0}
+IfBadScript statuses.BadWords P = Unit {0}
+IfBadScript statuses.ReadFault P = Unit {0}
+IfBadScript statuses.WriteFault P = Unit {0}
+IfBadScript statuses.TooLong P = Unit {0}
+
+-- the same for the result of a reader
+abbrev pub IfBad : {X : Type 0} → Result X ScriptFault → (BadScript → Type 0) → Type 0
+IfBad (Ok x) P = Unit {0}
+IfBad (Err faults.Memory) P = Unit {0}
+IfBad (Err (faults.Bad b)) P = P b
+
+-- nothing is written
+abbrev pub IsSilent : Status → Type 0
+IsSilent statuses.Done = ⊥
+IsSilent statuses.WriteFault = ⊥
+IsSilent statuses.NoMemory = Unit {0}
+IsSilent statuses.BadWords = Unit {0}
+IsSilent statuses.ReadFault = Unit {0}
+IsSilent (statuses.BadScript line kind) = Unit {0}
+IsSilent statuses.TooLong = Unit {0}
+
+-- all or a part of the output was written
+abbrev pub IsWritten : Status → Type 0
+IsWritten statuses.Done = Unit {0}
+IsWritten statuses.WriteFault = Unit {0}
+IsWritten statuses.NoMemory = ⊥
+IsWritten statuses.BadWords = ⊥
+IsWritten statuses.ReadFault = ⊥
+IsWritten (statuses.BadScript line kind) = ⊥
+IsWritten statuses.TooLong = ⊥
+
+-- no row was read
+abbrev pub IsUnread : Status → Type 0
+IsUnread statuses.BadWords = Unit {0}
+IsUnread statuses.ReadFault = Unit {0}
+IsUnread statuses.TooLong = Unit {0}
+IsUnread (statuses.BadScript line kind) = Unit {0}
+IsUnread statuses.Done = ⊥
+IsUnread statuses.WriteFault = ⊥
+IsUnread statuses.NoMemory = ⊥
