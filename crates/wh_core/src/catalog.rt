@@ -7,6 +7,7 @@ ghost use Rattle.wh_core.specs.Plain.{HasSmallKinds, given_rows, insert_command,
 
 use crate::create::table_of;
 use crate::insert::{append_rows, insert_refusal};
+use crate::notes::{Noted, note_of};
 use crate::select::query_of;
 use std::alloc::{AllocError, Global};
 use std::marker::Model;
@@ -14,10 +15,8 @@ use wh_base::queries::RawQuery;
 use wh_base::reads::Reads;
 use wh_base::replies::{Answered, Committed, Done, PlanLine, Refusal, Refused, Reply};
 use wh_base::seq::Seq;
-use wh_base::shared::Shared;
 use wh_base::statements::{
-    Asked, Block, ChangeStatement, Command, Entry, Event, Id, InsertRows, NewTable, Statement,
-    TableStatement,
+    Asked, Block, ChangeStatement, Command, Id, InsertRows, NewTable, Statement, TableStatement,
 };
 use wh_base::tables::TableDef;
 use wh_eval::{RowList, evaluate};
@@ -30,10 +29,10 @@ pub struct Stored<L> {
 }
 
 /// The catalog, which contracts see as its trace: the entries of its journal with their commands. Its SCN and its table
-/// are what the definitions make of that trace.
+/// are what the definitions make of that trace. Of the commands nothing else is kept.
 #[derive(Drop)]
 pub struct Core<L> {
-    trace: Seq<Event>,
+    trace: Seq<Noted>,
     scn: u64,
     table: Option<Stored<L>>,
 }
@@ -54,20 +53,6 @@ impl<L> Model for Core<L> {
     ghost invariant = { λ c. IsCore c.scn (option_map (λ t. (t.def, t.rows)) c.table) c.trace };
 }
 
-/// The entry of a command's one part, with the command, which isn't copied.
-fn event_of(id: Id, command: &Shared<Command>) -> Result<Event, AllocError>
-    ensures { IfOk result (λ e. e ≡ event_of id command.now) }
-{
-    Ok(Event {
-        entry: Entry {
-            session: id.session,
-            command: id.command,
-            part: 1,
-        },
-        command: command.share()?,
-    })
-}
-
 impl<L> Core<L> {
     /// The empty catalog, with an empty journal. Takes no memory.
     #[tactic(auto, using(crate::proofs::Core::beginning))]
@@ -79,13 +64,6 @@ impl<L> Core<L> {
             scn: 0,
             table: None,
         }
-    }
-
-    /// The trace: each entry of the journal, in order, with its command.
-    pub fn trace(&self) -> &Seq<Event>
-        ensures { result.now ≡ self.now }
-    {
-        &self.trace
     }
 
     /// The step of the next command of a session: it enters the journal, takes effect and is answered. A CREATE TABLE
@@ -100,7 +78,7 @@ impl<L> Core<L> {
         &mut self,
         alloc: Global,
         id: Id,
-        command: &Shared<Command>,
+        command: &Command,
         reads: &mut Reads<L>,
     ) -> Result<Reply, AllocError>
         requires next { IsTrue (commands_are_built (commands_of self.old ++ command.now ∷ [])) }
@@ -112,7 +90,7 @@ impl<L> Core<L> {
         ensures ok { OnOk result (self.new ≡ self.old ++ event_of id command.now ∷ []) }
         ensures err { OnErr result (self.new ≡ self.old) }
     {
-        match command.get() {
+        match command {
             Command::Block(block) => self.insert(alloc, id, command, only_insert(block)),
             Command::Other(statement) => self.other(alloc, id, command, statement, reads),
         }
@@ -124,7 +102,7 @@ impl<L> Core<L> {
         &mut self,
         alloc: Global,
         id: Id,
-        command: &Shared<Command>,
+        command: &Command,
         statement: &Statement,
         reads: &mut Reads<L>,
     ) -> Result<Reply, AllocError>
@@ -153,7 +131,7 @@ impl<L> Core<L> {
         &mut self,
         alloc: Global,
         id: Id,
-        command: &Shared<Command>,
+        command: &Command,
         table: &NewTable,
     ) -> Result<Reply, AllocError>
         requires next { IsTrue (commands_are_built (commands_of self.old ++ command.now ∷ [])) }
@@ -163,9 +141,8 @@ impl<L> Core<L> {
         ensures ok { OnOk result (self.new ≡ self.old ++ event_of id command.now ∷ []) }
         ensures err { OnErr result (self.new ≡ self.old) }
     {
-        let event = event_of(id, command)?;
         let def = table_of(alloc, table)?;
-        self.trace.push(event)?;
+        self.trace.push(note_of(id, command))?;
         self.scn += 1;
         self.table = Some(Stored {
             def,
@@ -182,7 +159,7 @@ impl<L> Core<L> {
         &mut self,
         alloc: Global,
         id: Id,
-        command: &Shared<Command>,
+        command: &Command,
         statement: &InsertRows,
     ) -> Result<Reply, AllocError>
         requires next { IsTrue (commands_are_built (commands_of self.old ++ command.now ∷ [])) }
@@ -193,7 +170,7 @@ impl<L> Core<L> {
         ensures err { OnErr result (self.new ≡ self.old) }
     {
         let had = self.trace.len();
-        self.trace.push(event_of(id, command)?)?;
+        self.trace.push(note_of(id, command))?;
         let Some(mut table) = self.table.take() else {
             unreachable!();
         };
@@ -221,7 +198,7 @@ impl<L> Core<L> {
         &mut self,
         alloc: Global,
         id: Id,
-        command: &Shared<Command>,
+        command: &Command,
         asked: &Asked,
         reads: &mut Reads<L>,
     ) -> Result<Reply, AllocError>
@@ -235,12 +212,11 @@ impl<L> Core<L> {
         ensures ok { OnOk result (self.new ≡ self.old ++ event_of id command.now ∷ []) }
         ensures err { OnErr result (self.new ≡ self.old) }
     {
-        let event = event_of(id, command)?;
         let Some(table) = &self.table else {
             unreachable!();
         };
         let reply = answer(alloc, self.scn, table, &asked.query, reads)?;
-        self.trace.push(event)?;
+        self.trace.push(note_of(id, command))?;
         Ok(reply)
     }
 }

@@ -245,15 +245,15 @@ pub(crate) fn insert_refusal(
     all_sizes_refusal(alloc, def, statement.rows.as_slice())
 }
 
-/// The values of a row.
+/// The values of a row, in no more memory than they take.
 fn row_values(alloc: Global, row: &[Option<Literal>]) -> Result<Seq<Value>, AllocError>
     ensures { IfOk result (λ values. values ≡ map given_value row.now) }
 {
-    let mut values = Seq::new(alloc);
+    let mut values = Vec::with_capacity(alloc, row.len())?;
     for literal in row {
         values.push(given_value(alloc, literal)?)?;
     }
-    Ok(values)
+    Seq::from_vec(values)
 }
 
 /// Moves the values of these rows behind those of the list, one after another. After an error, which says that memory

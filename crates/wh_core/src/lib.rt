@@ -5,4 +5,5 @@
 pub mod catalog;
 mod create;
 mod insert;
+mod notes;
 mod select;

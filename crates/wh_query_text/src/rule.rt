@@ -1,9 +1,10 @@
 ghost use Rattle.def_grammar.specs.Reading.{◌>>◌, ◌or◌, bracketed, listed, many, mark, maybe};
-ghost use Rattle.std.specs.Prelude.{List, Option, codes};
+ghost use Rattle.std.specs.Prelude.{◌≡◌, ◌∷◌, IfOk, List, Option, codes};
 ghost use Rattle.wh_lex.specs.declared.token.Token.{Token};
 ghost use Rattle.wh_query_text.specs.Parse.{Gives};
 
 use crate::parser::{ParseFault, Parser};
+use std::alloc::{AllocError, Global};
 use std::marker::PhantomData;
 use wh_base::seq::Seq;
 
@@ -117,6 +118,18 @@ impl<R: Rule> Rule for BehindComma<R> {
     }
 }
 
+/// An item and those after it, in no more memory than they take: a script may have many short lists. An error says that
+/// memory ran out.
+fn with_first<T: Drop>(alloc: Global, first: T, more: Seq<T>) -> Result<Seq<T>, AllocError>
+    ensures { IfOk result (λ items. items ≡ first ∷ more) }
+{
+    let mut more = more.into_vec();
+    let mut items = Vec::with_capacity(alloc, 1 + more.len())?;
+    items.push(first)?;
+    items.append(&mut more)?;
+    Seq::from_vec(items)
+}
+
 /// What a rule reads at least once, with commas between.
 pub struct Listed<R> {
     rule: PhantomData<R>,
@@ -131,16 +144,12 @@ where
     ghost reads = { listed R.reads };
 
     fn read(parser: &mut Parser<'_>) -> Result<Seq<R::Output>, ParseFault> {
-        let mut items = Seq::new(parser.alloc());
         let first = R::read(parser)?;
-        let Ok(()) = items.push(first) else {
-            return Err(ParseFault::Memory);
-        };
         let more = Many::<BehindComma<R>>::read(parser)?;
-        let Ok(()) = items.append(more) else {
-            return Err(ParseFault::Memory);
-        };
-        Ok(items)
+        match with_first(parser.alloc(), first, more) {
+            Ok(items) => Ok(items),
+            Err(AllocError) => Err(ParseFault::Memory),
+        }
     }
 }
 

@@ -212,16 +212,6 @@ count_push k (suc n) =
     let same : suc k + n ≡ k + suc n = omega arith in
     ap (λ js. k ∷ js) (count_push (suc k) n ∙ ap (λ j. count_from (suc k) n ++ j ∷ []) same)
 
--- the commands up to a place, and the one there
-pub step_trace : (cs : List Command) (i : ℕ) (d : Command) → i < length cs → setup_events (take (suc i) cs) ≡ setup_events (take i cs) ++ event_of (setup_id (suc i)) (get_or cs i d) ∷ []
-step_trace cs i d low =
-    let few : length (take i cs) ≡ i = length_take i cs low in
-    let same : 1 + length (take i cs) ≡ suc i = omega (arith, few) in
-    ap setup_events (take-suc cs i d low) ∙ events_push 1 (take i cs) (get_or cs i d) ∙ ap (λ k. setup_events (take i cs) ++ event_of (setup_id k) (get_or cs i d) ∷ []) same
-  where
-    length_take : (i : ℕ) (xs : List Command) → i < length xs → length (take i xs) ≡ i
-    length_take i xs low = length-take-le i xs (omega arith)
-
 pub step_told : (n : ℕ) (told : List Told) (r : Reply) → AreTold n told → AreTold (suc n) (told ++ record { id = setup_id (suc n); reply = r } ∷ [])
 step_told n told r h =
     let same : 1 + n ≡ suc n = omega arith in

@@ -2,8 +2,8 @@
 use Rattle.std.specs.Prelude.{Err, Ok, Result, ℕ}
 use Rattle.wh_base.specs.declared.statements.BadScript.{BadScript}
 use Rattle.wh_base.specs.declared.statements.ScriptKind.{ScriptKind}
-use Rattle.wh_script.specs.declared.script.ScriptFault.{ScriptFault}
-use Rattle.wh_script.specs.declared.script.ScriptFault.TheVariants as faults
+use Rattle.wh_top.specs.declared.input.InputFault.{InputFault}
+use Rattle.wh_top.specs.declared.input.InputFault.TheVariants as faults
 use Rattle.wh_top.specs.declared.top.Status.{Status}
 use Rattle.wh_top.specs.declared.top.Status.TheVariants as statuses
 
@@ -17,10 +17,12 @@ IfBadScript statuses.ReadFault P = Unit {0}
 IfBadScript statuses.WriteFault P = Unit {0}
 IfBadScript statuses.TooLong P = Unit {0}
 
--- the same for the result of a reader
-abbrev pub IfBad : {X : Type 0} → Result X ScriptFault → (BadScript → Type 0) → Type 0
+-- what is known of the fault where there is no script because of the bytes
+abbrev pub IfBad : {X : Type 0} → Result X InputFault → (BadScript → Type 0) → Type 0
 IfBad (Ok x) P = Unit {0}
 IfBad (Err faults.Memory) P = Unit {0}
+IfBad (Err faults.Failed) P = Unit {0}
+IfBad (Err faults.TooLong) P = Unit {0}
 IfBad (Err (faults.Bad b)) P = P b
 
 -- nothing is written

@@ -1,6 +1,7 @@
 //! The top call: a script from a source, run in the order that the form `order` gives it, its transcript to a sink.
 #![tactic(auto)]
 
+mod input;
 mod output;
 mod setup;
 #[cfg(test)]

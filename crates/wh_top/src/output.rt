@@ -1,8 +1,6 @@
-ghost use Rattle.std.specs.Prelude.{◌≡◌, ◌+◌, ◌++◌, ◌<◌, ◌≤◌, ◌^◌, [], ◌∷◌, None, Some, All, IfOk, IfSome, IsNone, IsSome, OnOk, length, slice_index, slice_set, suc, true, ℕ};
-ghost use Rattle.def_built.specs.Form.{built_script, no_section, script_is_built};
+ghost use Rattle.std.specs.Prelude.{◌≡◌, ◌+◌, ◌++◌, ◌≤◌, ◌^◌, [], ◌∷◌, Some, All, IfOk, IfSome, IsNone, OnOk, length, slice_index, slice_set, suc, true, ℕ};
+ghost use Rattle.def_built.specs.Form.{no_section, script_is_built};
 ghost use Rattle.def_transcript.specs.Texts.{journal_line, lines_text};
-ghost use Rattle.wh_script.specs.Reading.{not_built};
-ghost use Rattle.wh_top.specs.Endings.{IfBad};
 ghost use Rattle.wh_top.specs.Top.{IsOfSetup, output_of, reads_in};
 
 use crate::setup::run;
@@ -12,18 +10,18 @@ use wh_base::seq::Seq;
 use wh_base::shared::Shared;
 use wh_base::statements::{Command, Entry, Script};
 use wh_render::push_journal;
-use wh_script::script::{ScriptFault, read_script};
 
 /// The commands of the setup, where the script has one.
 #[tactic(auto, using(crate::proofs::Outputs::sections))]
-fn setup_commands(script: &Script) -> Option<&Seq<Shared<Command>>>
-    requires { script_is_built script.now ≡ true }
-    ensures some { IfSome result (λ commands. IsOfSetup script.now commands.now) }
-    ensures none { IsNone result → script.now ≡ no_section }
+fn setup_commands(script: Script) -> Option<Seq<Shared<Command>>>
+    requires { script_is_built script ≡ true }
+    ensures some { IfSome result (λ commands. IsOfSetup script commands) }
+    ensures none { IsNone result → script ≡ no_section }
 {
-    match script.sections.as_slice() {
-        [setup] => Some(&setup.commands),
-        _ => None,
+    let mut sections = script.sections.into_vec();
+    match sections.pop() {
+        Some(setup) => Some(setup.commands),
+        None => None,
     }
 }
 
@@ -34,62 +32,39 @@ fn setup_commands(script: &Script) -> Option<&Seq<Shared<Command>>>
 #[tactic(auto, using(crate::proofs::Outputs::sections))]
 fn push_replies<L>(
     alloc: Global,
-    script: &Script,
+    script: Script,
     out: &mut Vec<u8>,
     reads: &mut Reads<L>,
 ) -> Result<Seq<Entry>, AllocError>
-    requires built { script_is_built script.now ≡ true }
+    requires built { script_is_built script ≡ true }
     requires room { reads.old ≤ 2 ^ 62 }
-    ensures output { IfOk result (λ journal. out.new.items ++ lines_text (journal_line journal ∷ []) ≡ out.old.items ++ output_of (Some script.now)) }
-    ensures raised { OnOk result (reads.new ≡ reads.old + reads_in (Some script.now) 0) }
-    ensures others { OnOk result ((n : ℕ) → reads_in (Some script.now) (suc n) ≡ 0) }
+    ensures output { IfOk result (λ journal. out.new.items ++ lines_text (journal_line journal ∷ []) ≡ out.old.items ++ output_of (Some script)) }
+    ensures raised { OnOk result (reads.new ≡ reads.old + reads_in (Some script) 0) }
+    ensures others { OnOk result ((n : ℕ) → reads_in (Some script) (suc n) ≡ 0) }
 {
     match setup_commands(script) {
-        Some(commands) => run(alloc, commands.as_slice(), out, reads),
+        Some(commands) => run(alloc, commands, out, reads),
         None => Ok(Seq::new(alloc)),
     }
 }
 
 /// The transcript of a script that is run in its own order. An error says that memory ran out.
 ///
-/// `reads` rises by the base rows that the replies say were read.
-fn transcript<L>(
-    alloc: Global,
-    script: &Script,
-    reads: &mut Reads<L>,
-) -> Result<Vec<u8>, AllocError>
-    requires built { script_is_built script.now ≡ true }
-    requires room { reads.old ≤ 2 ^ 62 }
-    ensures output { IfOk result (λ text. text.items ≡ output_of (Some script.now)) }
-    ensures raised { OnOk result (reads.new ≡ reads.old + reads_in (Some script.now) 0) }
-    ensures others { OnOk result ((n : ℕ) → reads_in (Some script.now) (suc n) ≡ 0) }
-{
-    let mut out = Vec::new(alloc);
-    let journal = push_replies(alloc, script, &mut out, reads)?;
-    push_journal(&mut out, journal.as_slice())?;
-    Ok(out)
-}
-
-/// What is written for the bytes of a script: its transcript. `Bad` says that the bytes are no script, and `Memory` that
-/// memory ran out.
-///
 /// The first counter rises by the base rows that the replies say were read.
 pub fn output<L>(
     alloc: Global,
-    bytes: &[u8],
+    script: Script,
     reads: &mut [Reads<L>],
-) -> Result<Vec<u8>, ScriptFault>
-    requires short { length bytes.now < 2 ^ 32 }
+) -> Result<Vec<u8>, AllocError>
+    requires built { script_is_built script ≡ true }
     requires counters { length reads.old ≡ 65 }
     requires room { All (λ n. n ≤ 2 ^ 62) reads.old }
-    ensures output { IfOk result (λ text. IsSome (built_script bytes.now) × (text.items ≡ output_of (built_script bytes.now))) }
-    ensures raised { OnOk result (reads.new ≡ slice_set reads.old 0 (slice_index reads.old 0 + reads_in (built_script bytes.now) 0)) }
-    ensures others { OnOk result ((n : ℕ) → reads_in (built_script bytes.now) (suc n) ≡ 0) }
-    ensures bad { IfBad result (λ b. (built_script bytes.now ≡ None) × (b ≡ not_built) × (reads.new ≡ reads.old)) }
+    ensures output { IfOk result (λ text. text.items ≡ output_of (Some script)) }
+    ensures raised { OnOk result (reads.new ≡ slice_set reads.old 0 (slice_index reads.old 0 + reads_in (Some script) 0)) }
+    ensures others { OnOk result ((n : ℕ) → reads_in (Some script) (suc n) ≡ 0) }
 {
-    let script = read_script(alloc, bytes)?;
-    match transcript(alloc, &script, &mut reads[0]) {
-        Ok(text) => Ok(text),
-        Err(AllocError) => Err(ScriptFault::Memory),
-    }
+    let mut out = Vec::new(alloc);
+    let journal = push_replies(alloc, script, &mut out, &mut reads[0])?;
+    push_journal(&mut out, journal.as_slice())?;
+    Ok(out)
 }

@@ -20,7 +20,7 @@ fn step<L>(
     alloc: Global,
     core: &mut Core<L>,
     id: Id,
-    command: &Shared<Command>,
+    command: &Command,
     out: &mut Vec<u8>,
     reads: &mut Reads<L>,
 ) -> Result<(), AllocError>
@@ -41,28 +41,28 @@ fn step<L>(
 /// `reads` rises by the base rows that the replies say were read.
 pub fn run<L>(
     alloc: Global,
-    commands: &[Shared<Command>],
+    commands: Seq<Shared<Command>>,
     out: &mut Vec<u8>,
     reads: &mut Reads<L>,
 ) -> Result<Seq<Entry>, AllocError>
-    requires built { IsTrue (commands_are_built commands.now) }
-    requires few { length commands.now < 2 ^ 32 }
+    requires built { IsTrue (commands_are_built commands) }
     requires room { reads.old ≤ 2 ^ 62 }
-    ensures journal { IfOk result (λ journal. journal ≡ map (λ e. e.entry) (setup_events commands.now)) }
-    ensures text { OnOk result (out.new.items ≡ out.old.items ++ told_text (replies_of (setup_events commands.now))) }
-    ensures each { OnOk result (AreTold (length commands.now) (replies_of (setup_events commands.now))) }
-    ensures raised { OnOk result (reads.new ≡ reads.old + reads_of (replies_of (setup_events commands.now))) }
+    ensures journal { IfOk result (λ journal. journal ≡ map (λ e. e.entry) (setup_events commands)) }
+    ensures text { OnOk result (out.new.items ≡ out.old.items ++ told_text (replies_of (setup_events commands))) }
+    ensures each { OnOk result (AreTold (length commands) (replies_of (setup_events commands))) }
+    ensures raised { OnOk result (reads.new ≡ reads.old + reads_of (replies_of (setup_events commands))) }
 {
     let mut core = Core::new(alloc);
     let mut journal = Seq::new(alloc);
     let mut number = 0;
-    for command in commands {
+    // Each command is gone once it has run, so that its rows aren't held beside those of the table.
+    for command in commands.into_vec() {
         number += 1;
         let id = Id {
             session: 0,
             command: number,
         };
-        step(alloc, &mut core, id, command, out, reads)?;
+        step(alloc, &mut core, id, command.get(), out, reads)?;
         journal.push(Entry {
             session: 0,
             command: number,

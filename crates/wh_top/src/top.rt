@@ -5,14 +5,14 @@ ghost use Rattle.wh_io.specs.Causes.{Rose, AppendsPart};
 ghost use Rattle.wh_top.specs.Endings.{IfBadScript, IsSilent, IsUnread, IsWritten};
 ghost use Rattle.wh_top.specs.Top.{Counted, is_order, most_bytes, output_of, reads_in};
 
+use crate::input::{InputFault, read_input};
 use crate::output::output;
 use std::alloc::Global;
 use wh_base::reads::Reads;
 use wh_base::seq::Seq;
 use wh_base::statements::{BadScript, ScriptKind};
 use wh_base::txt::Txt;
-use wh_io::{ReadFault, Sink, Source, read_all, write_all};
-use wh_script::script::ScriptFault;
+use wh_io::{Sink, Source, write_all};
 
 /// How a call ended.
 #[derive(Clone, Copy, Debug, PartialEq, Eq)]
@@ -32,8 +32,6 @@ pub enum Status {
     /// The source has more than 8,388,608 bytes.
     TooLong,
 }
-
-const MOST_BYTES: usize = 8388608;
 
 fn is_order(words: &[Txt]) -> bool
     ensures { result ≡ is_order words.now }
@@ -82,16 +80,15 @@ pub fn top_order<S: Source, K: Sink, L>(
     if !is_order(words.as_slice()) {
         return Status::BadWords;
     }
-    let bytes = match read_all(alloc, source, MOST_BYTES) {
-        Ok(bytes) => bytes,
-        Err(ReadFault::Memory) => return Status::NoMemory,
-        Err(ReadFault::Failed) => return Status::ReadFault,
-        Err(ReadFault::TooLong) => return Status::TooLong,
+    let script = match read_input(alloc, source) {
+        Ok(script) => script,
+        Err(InputFault::Memory) => return Status::NoMemory,
+        Err(InputFault::Failed) => return Status::ReadFault,
+        Err(InputFault::TooLong) => return Status::TooLong,
+        Err(InputFault::Bad(BadScript { line, kind })) => return Status::BadScript { line, kind },
     };
-    let text = match output(alloc, bytes.as_slice(), reads) {
-        Ok(text) => text,
-        Err(ScriptFault::Memory) => return Status::NoMemory,
-        Err(ScriptFault::Bad(BadScript { line, kind })) => return Status::BadScript { line, kind },
+    let Ok(text) = output(alloc, script, reads) else {
+        return Status::NoMemory;
     };
     match write_all(sink, text.as_slice()) {
         Ok(()) => Status::Done,

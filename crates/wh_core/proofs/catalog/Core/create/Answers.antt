@@ -14,7 +14,7 @@ overflow_add-self g c =
     omega (arith, none)
 
 pub invariant_of-self-2 : goal.invariant_of-self-2
-invariant_of-self-2 g c = rw (c.in_ok-push.ensures.ok, c.in_ok-event.ensures, c.in_ok-def.ensures, c.new.ensures) (created_by c.self.inside.scn _ c.self.inside.trace c.args.id c.args.command.now c.args.table.now c.requires.command (rw c.self.view_is c.requires.next) c.self.invariant).0
+invariant_of-self-2 g c = rw (c.in_ok-push.ensures.ok, c.note_of.ensures, c.in_ok-def.ensures, c.new.ensures) (created_by c.self.inside.scn _ c.self.inside.trace c.args.id c.args.command.now c.args.table.now c.requires.command (rw c.self.view_is c.requires.next) c.self.invariant).0
 
 pub returns-clause-reply : goal.returns-clause-reply
 returns-clause-reply g c =

@@ -17,7 +17,7 @@ invariant_of-self-in-Ok-None g c =
     let kept : c.insert_into-outcome.new.table.rows ≡ rows_left c.in-Some.table.rows (given_rows c.args.statement.now) (insert_refusal c.in-Some.table.def c.args.statement.now) = c.in-Ok-None.ensures.rows in
     let same : c.insert_into-outcome.new.table.def ≡ c.in-Some.table.def = c.in-Ok-None.ensures.def in
     let left : scn_left c.self.inside.scn (insert_refusal c.in-Some.table.def c.args.statement.now) ≡ c.self.inside.scn + 1 = ap (scn_left c.self.inside.scn) (sym none) ∙ next in
-    rw (c.in_ok-push.ensures.ok, c.in_ok-event_of.ensures, kept, same, sym left) made.0
+    rw (c.in_ok-push.ensures.ok, c.note_of.ensures, kept, same, sym left) made.0
 
 pub invariant_of-self-in-Ok-Some : goal.invariant_of-self-in-Ok-Some
 invariant_of-self-in-Ok-Some g c =
@@ -28,7 +28,7 @@ invariant_of-self-in-Ok-Some g c =
     let kept : c.insert_into-outcome.new.table.rows ≡ rows_left c.in-Some.table.rows (given_rows c.args.statement.now) (insert_refusal c.in-Some.table.def c.args.statement.now) = c.in-Ok-Some.ensures.rows in
     let same : c.insert_into-outcome.new.table.def ≡ c.in-Some.table.def = c.in-Ok-Some.ensures.def in
     let left : scn_left c.self.inside.scn (insert_refusal c.in-Some.table.def c.args.statement.now) ≡ c.self.inside.scn = ap (scn_left c.self.inside.scn) (sym some) in
-    subst (λ n. IsCore n (Some (c.insert_into-outcome.new.table.def, c.insert_into-outcome.new.table.rows)) c.push.new.self) left (rw (c.in_ok-push.ensures.ok, c.in_ok-event_of.ensures, kept, same) made.0)
+    subst (λ n. IsCore n (Some (c.insert_into-outcome.new.table.def, c.insert_into-outcome.new.table.rows)) c.push.new.self) left (rw (c.in_ok-push.ensures.ok, c.note_of.ensures, kept, same) made.0)
 
 pub returns-in-Ok-None-clause-reply : goal.returns-in-Ok-None-clause-reply
 returns-in-Ok-None-clause-reply g c =

@@ -15,7 +15,7 @@ invariant_of-self-2 g c =
     let IsKept : Option stored → Type 0 = λ o. IsCore c.self.inside.scn (option_map (λ t. (t.def, t.rows)) o) c.self.inside.trace in
     let core : IsKept (Some c.in-Some.table) = subst IsKept c.in-Some.is c.self.invariant in
     let made : IsCore c.self.inside.scn (Some (c.in-Some.table.def, c.in-Some.table.rows)) (c.self.inside.trace ++ event_of c.args.id c.args.command.now ∷ []) = (selected_by c.self.inside.scn c.in-Some.table.def c.in-Some.table.rows c.self.inside.trace c.args.id c.args.command.now c.args.asked.now c.requires.command (rw c.self.view_is c.requires.next) core).0 in
-    rw (c.in_ok-push.ensures.ok, c.in_ok-event.ensures) (subst (λ o. IsCore c.self.inside.scn (option_map (λ t. (t.def, t.rows)) o) (c.self.inside.trace ++ event_of c.args.id c.args.command.now ∷ [])) (sym c.in-Some.is) made)
+    rw (c.in_ok-push.ensures.ok, c.note_of.ensures) (subst (λ o. IsCore c.self.inside.scn (option_map (λ t. (t.def, t.rows)) o) (c.self.inside.trace ++ event_of c.args.id c.args.command.now ∷ [])) (sym c.in-Some.is) made)
 
 pub returns-clause-reply : goal.returns-clause-reply
 returns-clause-reply g c =

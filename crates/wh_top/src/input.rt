@@ -1,0 +1,50 @@
+ghost use Rattle.std.specs.Prelude.{◌≡◌, ◌<◌, None, Some, IfOk, IfSome, IsErrOf, OnOk, length, true};
+ghost use Rattle.std.specs.Io.KnownBytes.{IsAtEnd};
+ghost use Rattle.def_built.specs.Form.{built_script, script_is_built};
+ghost use Rattle.wh_io.specs.Causes.{Rose};
+ghost use Rattle.wh_script.specs.Reading.{not_built};
+ghost use Rattle.wh_top.specs.Endings.{IfBad};
+ghost use Rattle.wh_top.specs.Top.{most_bytes};
+
+use std::alloc::Global;
+use wh_base::statements::{BadScript, Script};
+use wh_io::{ReadFault, Source, read_all};
+use wh_script::script::{ScriptFault, read_script};
+
+/// Why there is no script.
+#[derive(Clone, Copy, Debug, PartialEq, Eq)]
+pub enum InputFault {
+    /// Memory ran out.
+    Memory,
+    /// The source failed.
+    Failed,
+    /// The source has more than 8,388,608 bytes.
+    TooLong,
+    /// The bytes are no script.
+    Bad(BadScript),
+}
+
+const MOST_BYTES: usize = 8388608;
+
+/// Reads a script from a source, to the end of its bytes. The bytes are gone then, so that they aren't held beside what
+/// the script makes.
+pub fn read_input<S: Source>(alloc: Global, source: &mut S) -> Result<Script, InputFault>
+    ensures script { IfOk result (λ script. IfSome (S.left source.old) (λ bytes. built_script bytes ≡ Some script)) }
+    ensures built { IfOk result (λ script. script_is_built script ≡ true) }
+    ensures end { OnOk result (IsAtEnd (S.left source.new)) }
+    ensures failed { IsErrOf result InputFault.Failed → Rose (S.faults source.old) (S.faults source.new) }
+    ensures too_long { IsErrOf result InputFault.TooLong → IfSome (S.left source.old) (λ bytes. most_bytes < length bytes) }
+    ensures bad { IfBad result (λ b. IfSome (S.left source.old) (λ bytes. built_script bytes ≡ None) × (b ≡ not_built)) }
+{
+    let bytes = match read_all(alloc, source, MOST_BYTES) {
+        Ok(bytes) => bytes,
+        Err(ReadFault::Memory) => return Err(InputFault::Memory),
+        Err(ReadFault::Failed) => return Err(InputFault::Failed),
+        Err(ReadFault::TooLong) => return Err(InputFault::TooLong),
+    };
+    match read_script(alloc, bytes.as_slice()) {
+        Ok(script) => Ok(script),
+        Err(ScriptFault::Memory) => Err(InputFault::Memory),
+        Err(ScriptFault::Bad(fault)) => Err(InputFault::Bad(fault)),
+    }
+}
