@@ -123,18 +123,18 @@ impl Tallies {
     pub fn begun(alloc: Global, items: &[Item]) -> Result<Tallies, AllocError>
         ensures { IfOk result (λ t. t ≡ map begun items.now) }
     {
-        let mut tallies = Vec::new(alloc);
+        let mut tallies = Vec::with_capacity(alloc, items.len())?;
         for item in items {
             tallies.push(Tally::begun(*item))?;
         }
         Ok(Tallies { items: tallies })
     }
 
-    /// The same again.
+    /// The same again, in no more memory than it takes.
     pub fn copied(&self, alloc: Global) -> Result<Tallies, AllocError>
         ensures { IfOk result (λ t. t ≡ self.now) }
     {
-        let mut tallies = Vec::new(alloc);
+        let mut tallies = Vec::with_capacity(alloc, self.items.len())?;
         for tally in self.items.as_slice() {
             tallies.push(*tally)?;
         }
@@ -152,14 +152,14 @@ impl Tallies {
         }
     }
 
-    /// The row of the group with this key.
+    /// The row of the group with this key, in no more memory than it takes.
     pub fn row(&self, alloc: Global, key: &Value) -> Result<Seq<Value>, AllocError>
         ensures { IfOk result (λ row. row ≡ map (tally_value key.now) self.now) }
     {
-        let mut row = Seq::new(alloc);
+        let mut row = Vec::with_capacity(alloc, self.items.len())?;
         for tally in self.items.as_slice() {
             row.push(tally.value(alloc, key)?)?;
         }
-        Ok(row)
+        Seq::from_vec(row)
     }
 }
