@@ -1,0 +1,4 @@
+pub mod Picked
+pub mod Searched
+pub mod Orders
+pub mod Lawful
