@@ -1,5 +1,5 @@
 -- The laws of the log.
-use Rattle.std.proofs.Common.{◌≡◌, ◌∙◌, ◌+◌, ◌<◌, ◌≤◌, ◌&&◌, ◌||◌, sym, ap, subst, refl, arith, ℕ, zero, suc, Bool, true, false, cond, List, [], ◌∷◌, ◌++◌, append_assoc, Option, None, Some, flat_map, is_none, length, max, nat_le, nat_lt}
+use Rattle.std.proofs.Common.{◌≡◌, ◌∙◌, ◌+◌, ◌<◌, ◌≤◌, ◌&&◌, ◌||◌, sym, ap, refl, arith, ℕ, suc, Bool, true, false, cond, List, [], ◌∷◌, ◌++◌, Option, None, Some, flat_map, is_none, length, max, nat_lt}
 use Rattle.std.specs.List.{AllByRecursion, filter}
 use Rattle.std.proofs.lemmas.Bool.Decides.{nat_tests}
 use Rattle.std.proofs.lemmas.List.{append-nil, length-append}
@@ -16,7 +16,7 @@ use Rattle.def_history.specs.Logs.{log_history, log_rows, log_side, sequenced, s
 use Rattle.wh_log.proofs.Orders.{filter_twice}
 use Rattle.wh_log.specs.Held.{Held}
 use Rattle.wh_log.specs.Laws.{HasNoted, Laws}
-use Rattle.wh_log.specs.Log.{after, begun, between, noted_at, numbered_from, purged, with_noted}
+use Rattle.wh_log.specs.Log.{after, between, noted_at, numbered_from, with_noted}
 
 -- numbers go on from one list to the next
 numbered-append : (f : LogFacts) (first : ℕ) (xs ys : List LogRow) → numbered_from f first (xs ++ ys) ≡ numbered_from f first xs ++ numbered_from f (first + length xs) ys

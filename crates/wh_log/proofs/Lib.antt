@@ -2,3 +2,4 @@ pub mod Picked
 pub mod Searched
 pub mod Orders
 pub mod Lawful
+pub mod Noted

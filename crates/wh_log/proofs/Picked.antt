@@ -1,11 +1,10 @@
 -- Values moved out of a row, column by column.
-use Rattle.std.proofs.Common.{◌≡◌, ◌≢◌, ◌∙◌, ◌+◌, ◌<◌, sym, ap, refl, arith, ℕ, zero, suc, Bool, true, false, List, [], ◌∷◌, drop, get_or, length, map, nat_eq, append_assoc, ◌++◌}
+use Rattle.std.proofs.Common.{◌≡◌, ◌≢◌, ◌∙◌, ◌+◌, ◌<◌, sym, ap, refl, arith, ℕ, zero, suc, false, List, [], ◌∷◌, drop, get_or, length, map, nat_eq, append_assoc, ◌++◌}
 use Rattle.std.proofs.lemmas.Bool.Decides.{nat_tests}
 use Rattle.std.specs.Prelude.{slice_set}
 use Rattle.std.specs.List.{AllByRecursion, IsDistinct}
 use Rattle.wh_base.specs.Tables.{value_at}
 use Rattle.wh_base.specs.declared.values.Value.{Value}
-use Rattle.wh_base.specs.declared.values.Value.TheVariants.{Null}
 
 -- the value at another column stays
 other_column : (vs : List Value) (c : ℕ) (w : Value) (k : ℕ) → c ≢ k → value_at (slice_set vs c w) k ≡ value_at vs k

@@ -1,5 +1,5 @@
 -- A list of which the first rows pass a test, and no later one.
-use Rattle.std.proofs.Common.{◌≡◌, ◌∙◌, ◌≤◌, sym, ap, refl, arith, ℕ, zero, suc, Bool, true, false, cond, not, List, [], ◌∷◌, drop, leb, length, nat_lt, take}
+use Rattle.std.proofs.Common.{◌≡◌, ◌∙◌, ◌≤◌, ap, refl, arith, ℕ, zero, suc, Bool, true, false, cond, not, List, [], ◌∷◌, drop, leb, length, nat_lt, take}
 use Rattle.std.proofs.lemmas.Bool.Decides.{nat_tests}
 use Rattle.std.specs.List.{filter}
 use Rattle.std.specs.List.Sorted.{IsPartitionPoint}

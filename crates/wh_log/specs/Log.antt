@@ -1,6 +1,6 @@
 -- What a log is after each call.
 use Rattle.std.specs.List.{All, enumerate_from}
-use Rattle.std.specs.Prelude.{◌<◌, List, None, [], filter, length, map, max, nat_le, nat_lt, ℕ, ◌+◌, ◌++◌, ◌-◌, ◌∷◌}
+use Rattle.std.specs.Prelude.{◌<◌, List, None, [], filter, length, map, max, nat_le, nat_lt, ℕ, ◌+◌, ◌++◌, ◌-◌}
 use Rattle.wh_base.specs.Lists.{where_true}
 use Rattle.wh_base.specs.declared.logs.LogFacts.{LogFacts}
 use Rattle.wh_base.specs.declared.logs.LogOp.{LogOp}

@@ -8,3 +8,6 @@ mod sides;
 
 pub use log::MvLog;
 pub use meaning::laws;
+
+#[cfg(test)]
+mod tests;

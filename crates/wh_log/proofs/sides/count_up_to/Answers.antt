@@ -1,6 +1,5 @@
-use Rattle.std.proofs.Common.{leb, rules, true, false, ◌≡◌}
+use Rattle.std.proofs.Common.{leb, rules}
 use Rattle.std.proofs.lemmas.List.Sorted.{IsPartitionPoint-from_clause, IsPartitionedBy-leb}
-use Rattle.std.specs.List.Sorted.{IsPartitionPoint}
 use Rattle.wh_base.specs.declared.logs.LogRow.{LogRow}
 use Rattle.wh_log.specs.Log.{scn_of}
 use Rattle.wh_log.proofs.Searched.{searched}

@@ -1,4 +1,4 @@
-use Rattle.std.proofs.Common.{rules, arith, ap, sym, subst, ◌∙◌, ◌<◌, ◌≤◌, List}
+use Rattle.std.proofs.Common.{arith, ap, sym, subst, ◌∙◌, ◌<◌, ◌≤◌, List}
 use Rattle.std.specs.List.{All}
 use Rattle.std.specs.List.Sorted.{IsNonDecreasingBy}
 use Rattle.wh_base.specs.declared.logs.LogRow.{LogRow}
