@@ -12,8 +12,8 @@ use wh_base::seq::Seq;
 use wh_base::tables::Change;
 use wh_base::values::Value;
 
-/// The log of a table, as contracts see it a record: its facts with the FROM of now, its birth, the rows that it holds,
-/// how many rows were ever numbered, and for how many more there is memory.
+/// The materialized view log of a table (Data Warehousing Guide). Contracts see it as a record: its facts with the FROM of
+/// now, its birth, the rows that it holds, how many rows it ever had, and for how many more there is memory.
 #[derive(Drop)]
 pub struct MvLog {
     facts: LogFacts,
@@ -70,7 +70,8 @@ impl MvLog {
         self.rows.as_slice()
     }
 
-    /// The rows with an SCN above `from` and at most `to`, found by binary search. FROM may not be above `from`.
+    /// The rows with an SCN above `from` and at most `to`, in their order. FROM must be at most `from`, so that no purge
+    /// took one of them (this project's own). They are found by binary search.
     #[tactic(auto, using(crate::proofs::Orders::orders))]
     pub fn suffix(&self, from: u64, to: u64) -> &[LogRow]
         requires { self.now.facts.from ≤ from }
@@ -79,7 +80,8 @@ impl MvLog {
         rows_up_to(rows_after(self.rows.as_slice(), from), to)
     }
 
-    /// Makes memory for the sides of changes, so many rows. An error says that memory ran out; then the log is as it was.
+    /// Makes memory for so many rows more, each a side of a change to be noted. An error says that memory ran out; then the
+    /// log is as it was.
     pub fn reserve(&mut self, rows: u64) -> Result<(), AllocError>
         ensures ok { OnOk result (self.new ≡ record self.old { room = max self.old.room rows }) }
         ensures err { OnErr result (self.new ≡ self.old) }
@@ -90,8 +92,9 @@ impl MvLog {
         Ok(())
     }
 
-    /// Removes the rows with an SCN at or below `to` and gives their number. FROM becomes the greater of itself and `to`.
-    /// The numbers of later rows go on. The place is found by binary search; then the rows that stay move up.
+    /// Removes the rows with an SCN at or below `to` and gives how many they were. FROM becomes the greater of itself and
+    /// `to`, and the numbers of later rows go on (Data Warehousing Guide; the numbers are this project's own). The place is
+    /// found by binary search; then the rows that stay move up.
     #[tactic(auto, using(crate::proofs::Orders::orders))]
     pub fn purge(&mut self, to: u64) -> u64
         ensures removed { result ≡ length (up_to to self.old.rows) }
@@ -105,9 +108,10 @@ impl MvLog {
 
     /// Appends the sides of a change that was committed at this SCN, numbered after all rows that the log ever had: for
     /// an insert the new values, for a delete the old ones, for an update the old ones and then, where the log keeps new
-    /// values, the new ones (Data Warehousing Guide). The values of the logged columns are moved and not copied, and it
-    /// takes no memory: there must be memory for these sides. The logged columns differ and are there in each row of the
-    /// change, the SCN is above FROM and not below that of a row of the log.
+    /// values, the new ones (Data Warehousing Guide). The values of the logged columns are moved and not copied.
+    ///
+    /// It takes no memory: there must be memory for these sides. The logged columns must differ and be there in each row of
+    /// the change, and the SCN must be above FROM and not below that of a row of the log.
     pub fn note(&mut self, change: Change, scn: u64)
         requires differ { IsDistinct nat_eq self.old.facts.columns }
         requires old_columns { IfSome change.old (HasColumns self.old.facts) }

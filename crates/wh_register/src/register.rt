@@ -27,8 +27,8 @@ impl Room {
     }
 }
 
-/// The views for which room was made, each with its tables and, where it is registered, its point. Contracts see it as
-/// a map from the number of a view.
+/// The views for which room was made, each with its tables and, where it is registered, its point (Data Warehousing
+/// Guide; to make the room before is this project's own). Contracts see it as a map from the number of a view.
 #[derive(Drop)]
 pub struct Register {
     alloc: Global,
@@ -97,7 +97,7 @@ impl Register {
     }
 
     /// The SCN up to which the log of a table may be purged: the least point of the registered views on the table, or
-    /// `now` where there is none. After PURGE of a log by its oldest dependents (Data Warehousing Guide).
+    /// `now` where there is none. So no registered view loses a row that it hasn't seen (Data Warehousing Guide).
     #[tactic(auto, using(crate::proofs::Rooms::leasts))]
     pub fn purge_point(&self, table: u32, now: u64) -> u64
         ensures { result ≡ purge_point (map.values self.now) table now }
