@@ -2,8 +2,10 @@
 //! keeps the rows that one of them still needs.
 #![tactic(auto)]
 
+mod meaning;
 mod register;
 
+pub use meaning::laws;
 pub use register::{Register, Room};
 
 #[cfg(test)]
