@@ -1,13 +1,14 @@
 -- The laws of the log.
-use Rattle.std.proofs.Common.{◌≡◌, ◌∙◌, ◌+◌, ◌<◌, ◌≤◌, ◌&&◌, ◌||◌, sym, ap, refl, arith, ℕ, suc, Bool, true, false, cond, List, [], ◌∷◌, ◌++◌, Option, None, Some, flat_map, is_none, length, max, nat_lt}
-use Rattle.std.specs.List.{AllByRecursion, filter}
+use Rattle.std.proofs.Common.{◌≡◌, ◌∙◌, ◌+◌, ◌<◌, ◌≤◌, ◌&&◌, ◌||◌, sym, ap, subst, refl, arith, ℕ, suc, Bool, true, false, cond, List, [], ◌∷◌, ◌++◌, Option, None, Some, flat_map, is_none, length, max, nat_lt}
+use Rattle.std.specs.List.{All, AllByRecursion, filter}
 use Rattle.std.proofs.lemmas.Bool.Decides.{nat_tests}
 use Rattle.std.proofs.lemmas.List.{append-nil, length-append}
 use Rattle.std.proofs.lemmas.List.Concat.{flat_map-append}
-use Rattle.std.proofs.lemmas.List.Elements.{filter-append}
-use Rattle.wh_base.specs.Lists.{option_case}
+use Rattle.std.proofs.lemmas.List.Elements.{All-append, All-cons, All-filter, All-head, All-nil, All-tail, filter-append}
+use Rattle.wh_base.specs.Lists.{option_case, where_true}
 use Rattle.wh_base.specs.declared.logs.LogFacts.{LogFacts}
 use Rattle.wh_base.specs.declared.logs.LogRow.{LogRow}
+use Rattle.wh_base.specs.declared.logs.LogSide.{LogSide}
 use Rattle.wh_base.specs.declared.logs.LogSide.TheVariants.{N, O}
 use Rattle.wh_base.specs.declared.values.Value.{Value}
 use Rattle.def_history.specs.Catalog.{Catalog, Log, Noted}
@@ -86,6 +87,52 @@ between_after low from to rows h = filter_twice (λ r. nat_lt low r.scn) (λ r. 
 holds : (c : Catalog) (l : Log) (log : Held) → log.facts ≡ l.facts → HasNoted log (noted_changes c l.table l.born c.scn) → log.rows ≡ log_rows c l
 holds c l log same h = h.rows ∙ ap (λ (f : LogFacts). after f.from (sequenced f (flat_map (sides_of f) (noted_changes c l.table l.born c.scn)))) same
 
+-- ---- bounds
+
+two_sides : (f : LogFacts) (n : Noted) → length (sides_of f n) ≤ 2
+two_sides f n = by n.change.old n.change.new (is_none n.change.old || f.new_values)
+  where
+    by : (old new : Option (List Value)) (b : Bool) → length (option_case old [] (λ vs. log_side f n O vs ∷ []) ++ option_case new [] (λ vs. cond b (log_side f n N vs ∷ []) [])) ≤ 2
+    by None None b = omega arith
+    by None (Some vs) true = omega arith
+    by None (Some vs) false = omega arith
+    by (Some us) None b = omega arith
+    by (Some us) (Some vs) true = omega arith
+    by (Some us) (Some vs) false = omega arith
+
+module _ (scn : ℕ) where
+  abbrev UpTo : LogRow → Type 0
+  UpTo r = r.scn ≤ scn
+
+  sides_latest : (f : LogFacts) (n : Noted) → n.scn ≤ scn → All UpTo (sides_of f n)
+  sides_latest f n h = by n.change.old n.change.new (is_none n.change.old || f.new_values)
+    where
+      one : (side : LogSide) (vs : List Value) → All UpTo (log_side f n side vs ∷ [])
+      one side vs = All-cons UpTo (log_side f n side vs) [] h (All-nil UpTo)
+
+      by : (old new : Option (List Value)) (b : Bool) → All UpTo (option_case old [] (λ vs. log_side f n O vs ∷ []) ++ option_case new [] (λ vs. cond b (log_side f n N vs ∷ []) []))
+      by None None b = All-nil UpTo
+      by None (Some vs) true = one N vs
+      by None (Some vs) false = All-nil UpTo
+      by (Some us) None b = one O us
+      by (Some us) (Some vs) true = All-cons UpTo (log_side f n O us) (log_side f n N vs ∷ []) h (one N vs)
+      by (Some us) (Some vs) false = one O us
+
+  changes_latest : (f : LogFacts) (changes : List Noted) → All (λ n. n.scn ≤ scn) changes → All UpTo (flat_map (sides_of f) changes)
+  changes_latest f [] h = All-nil UpTo
+  changes_latest f (n ∷ ns) h =
+      All-append UpTo (sides_of f n) (flat_map (sides_of f) ns) (sides_latest f n (All-head (λ n. n.scn ≤ scn) n ns h)) (changes_latest f ns (All-tail (λ n. n.scn ≤ scn) n ns h))
+
+  numbered_latest : (f : LogFacts) (first : ℕ) (rows : List LogRow) → All UpTo rows → All UpTo (numbered_from f first rows)
+  numbered_latest f first [] h = All-nil UpTo
+  numbered_latest f first (r ∷ rs) h =
+      All-cons UpTo (record r { seq = where_true f.sequence first }) (numbered_from f (first + 1) rs) (All-head UpTo r rs h) (numbered_latest f (first + 1) rs (All-tail UpTo r rs h))
+
+  latest : (log : Held) (changes : List Noted) → HasNoted log changes → All (λ n. n.scn ≤ scn) changes → All UpTo log.rows
+  latest log changes h below =
+      let all : List LogRow = sequenced log.facts (flat_map (sides_of log.facts) changes) in
+      subst (All UpTo) (sym h.rows) (All-filter (λ r. nat_lt log.facts.from r.scn) UpTo all (numbered_latest log.facts 1 (flat_map (sides_of log.facts) changes) (changes_latest log.facts changes below)))
+
 pub lawful : Laws
 lawful = record {
   begins = λ facts. record { rows = refl; numbered = refl };
@@ -94,4 +141,6 @@ lawful = record {
   reserves = λ log changes room h. record { rows = h.rows; numbered = h.numbered };
   holds = holds;
   suffixes = λ c l log from to same h low. ap (between from to) (holds c l log same h) ∙ between_after l.facts.from from to (log_history c l) low;
+  latest = λ log changes scn. latest scn log changes;
+  two = two_sides;
 }

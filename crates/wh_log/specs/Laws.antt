@@ -1,5 +1,5 @@
 -- A log that notes the changes of its table holds the rows of the definition of a log.
-use Rattle.std.specs.Prelude.{◌≡◌, ◌<◌, ◌≤◌, List, [], flat_map, length, ℕ, ◌++◌, ◌∷◌}
+use Rattle.std.specs.Prelude.{◌≡◌, ◌<◌, ◌≤◌, All, List, [], flat_map, length, ℕ, ◌++◌, ◌∷◌}
 use Rattle.wh_base.specs.declared.logs.LogFacts.{LogFacts}
 use Rattle.def_history.specs.Catalog.{Catalog, Log, Noted}
 use Rattle.def_history.specs.History.{noted_changes}
@@ -26,3 +26,7 @@ pub record Laws : Type 0 where
   -- and from FROM on a suffix misses none of them, purged or not
   pub suffixes : (c : Catalog) (l : Log) (log : Held) (from to : ℕ) → log.facts ≡ l.facts → HasNoted log (noted_changes c l.table l.born c.scn) → l.facts.from ≤ from
       → between from to log.rows ≡ between from to (log_history c l)
+  -- no row of the log has a higher SCN than all changes noted
+  pub latest : (log : Held) (changes : List Noted) (scn : ℕ) → HasNoted log changes → All (λ n. n.scn ≤ scn) changes → All (λ r. r.scn ≤ scn) log.rows
+  -- a change has two sides at the most
+  pub two : (facts : LogFacts) (n : Noted) → length (sides_of facts n) ≤ 2
