@@ -71,7 +71,7 @@ impl MvLog {
     }
 
     /// The rows with an SCN above `from` and at most `to`, in their order. FROM must be at most `from`, so that no purge
-    /// took one of them (this project's own). They are found by binary search.
+    /// took one of them (this project's own). They are found by two binary searches, and none of them is copied.
     #[tactic(auto, using(crate::proofs::Orders::orders))]
     pub fn suffix(&self, from: u64, to: u64) -> &[LogRow]
         requires { self.now.facts.from ≤ from }

@@ -31,7 +31,6 @@ pub fn logged_of(row: Seq<Value>, columns: &Seq<u32>, buffer: Vec<Value>) -> Seq
 }
 
 /// How many rows have an SCN at or below this one. They are the first.
-
 pub fn count_up_to(rows: &[LogRow], scn: u64) -> usize
     requires { IsNonDecreasingBy scn_of rows.now }
     ensures within { result ≤ length rows.now }
