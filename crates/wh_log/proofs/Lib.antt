@@ -1,0 +1,5 @@
+pub mod Picked
+pub mod Searched
+pub mod Orders
+pub mod Lawful
+pub mod Noted
