@@ -2,7 +2,7 @@
 use Rattle.std.proofs.Common.{◌≡◌, List, Option, Some, None, refl}
 use Rattle.std.specs.Prelude.{codes, option_map}
 use Rattle.def_grammar.specs.Query.{column, condition_on, literal, operator}
-use Rattle.def_grammar.specs.Reading.{Rule, bracketed, gives, listed, mapped, mark, or_else, word, ◌>>=◌, ◌>>◌, ◌or◌}
+use Rattle.def_grammar.specs.Reading.{Rule, bracketed, gives, listed, mapped, mark, or_else, word, ◌>>=◌, ◌>>◌}
 use Rattle.wh_base.specs.Lists.{option_case}
 use Rattle.wh_base.specs.declared.queries.ColName.{ColName}
 use Rattle.wh_base.specs.declared.queries.RawCondition.{RawCondition}

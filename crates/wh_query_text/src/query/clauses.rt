@@ -1,8 +1,7 @@
-ghost use Rattle.def_grammar.specs.Query.{aggregate, all_of, as_of, column, condition, from_tables, join, joined_table, order_key, select, table, table_with, test};
+ghost use Rattle.def_grammar.specs.Query.{aggregate, all_of, column, condition, from_tables, join, joined_table, order_key, select, table, table_with, test};
 ghost use Rattle.def_grammar.specs.Reading.{◌>>◌, ◌or◌, gives, listed, mapped, mark, number, word};
-ghost use Rattle.std.specs.Prelude.{◌≡◌, None, Some, codes, false, pos, true};
+ghost use Rattle.std.specs.Prelude.{◌≡◌, None, codes, false, pos, true};
 ghost use Rattle.wh_base.specs.declared.queries.RawOrder.TheVariants as order;
-ghost use Rattle.wh_query_text.specs.Parse.{Gives};
 
 use crate::parser::{ParseFault, Parser};
 use crate::query::aggregates::Aggregate;

@@ -1,4 +1,4 @@
-ghost use Rattle.def_grammar.specs.Query.{column, column_named_by, marker, plain_name, product_or_column, rowid_as, signed};
+ghost use Rattle.def_grammar.specs.Query.{column, marker, plain_name, product_or_column, rowid_as, signed};
 ghost use Rattle.def_grammar.specs.Reading.{◌>>◌, mapped, mark};
 ghost use Rattle.std.specs.Prelude.{◌≡◌, codes};
 ghost use Rattle.wh_base.specs.declared.queries.NamePart.TheVariants.{MarkName, RowIdName};

@@ -1,7 +1,5 @@
-ghost use Rattle.def_grammar.specs.Query.{column, condition, operator};
-ghost use Rattle.def_grammar.specs.Reading.{◌>>◌, word};
-ghost use Rattle.std.specs.Prelude.{◌≡◌, codes};
-ghost use Rattle.wh_query_text.specs.Parse.{Gives};
+ghost use Rattle.def_grammar.specs.Query.{condition, operator};
+ghost use Rattle.std.specs.Prelude.{◌≡◌};
 ghost use Rattle.wh_query_text.specs.Tail.{between_tail, compare_tail, condition_with, equal_tail, not_null_tail, null_tail, one_of_tail};
 
 use crate::parser::{ParseFault, Parser};

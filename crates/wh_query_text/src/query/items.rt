@@ -2,7 +2,6 @@ ghost use Rattle.def_grammar.specs.Query.{aggregate, column, item};
 ghost use Rattle.def_grammar.specs.Reading.{◌>>◌, mapped, name, word};
 ghost use Rattle.std.specs.Prelude.{codes};
 ghost use Rattle.wh_base.specs.declared.queries.RawWhat.TheVariants as what;
-ghost use Rattle.wh_query_text.specs.Parse.{Gives};
 
 use crate::parser::{ParseFault, Parser};
 use crate::query::aggregates::Aggregate;

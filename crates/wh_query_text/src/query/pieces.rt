@@ -1,7 +1,6 @@
 ghost use Rattle.def_grammar.specs.Query.{all_of};
 ghost use Rattle.def_grammar.specs.Reading.{◌>>◌, maybe, optional_list, word};
 ghost use Rattle.std.specs.Prelude.{◌≡◌, ◌∷◌, Some, codes};
-ghost use Rattle.wh_query_text.specs.Parse.{Gives};
 ghost use Rattle.wh_query_text.specs.Pieces.{Makes, word_there};
 
 use crate::parser::{ParseFault, Parser};
