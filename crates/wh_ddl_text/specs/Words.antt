@@ -24,3 +24,9 @@ one_of_both first second = (all_words first >> gives true) or (all_words second 
 -- the same, and false where neither is there
 abbrev pub maybe_one_of_both : List (List ℕ) → List (List ℕ) → Rule Bool
 maybe_one_of_both first second = (all_words first >> gives true) or (all_words second >> gives false) or gives false
+
+-- what the code gives of all tokens is what the definition gives; want of memory says nothing
+abbrev pub GivesWhole : {X : Type 0} → Result X ParseFault → Option X → Type 0
+GivesWhole (Ok x) read = read ≡ Some x
+GivesWhole (Err faults.Memory) read = Unit {0}
+GivesWhole (Err faults.Syntax) read = read ≡ None

@@ -1,4 +1,4 @@
-ghost use Rattle.def_grammar.specs.Forms.{delete, insert, is_plain_name, is_plain_part, own_conditions, row_value, set_column, update};
+ghost use Rattle.def_grammar.specs.Forms.{delete, insert, is_plain_name, own_conditions, row_value, set_column, update};
 ghost use Rattle.def_grammar.specs.Reading.{◌>>◌, mapped, mark, number};
 ghost use Rattle.def_resolve.specs.Names.{condition_names};
 ghost use Rattle.std.specs.List.{list_all};

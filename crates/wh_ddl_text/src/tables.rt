@@ -1,7 +1,6 @@
-ghost use Rattle.def_grammar.specs.Forms.{all_words, alter_table, column_mark, constraint_name, create_table, foreign_part, key_part, kind, new_column_part, part_change, partitioning, range, reference};
-ghost use Rattle.def_grammar.specs.Query.{literal};
+ghost use Rattle.def_grammar.specs.Forms.{all_words, alter_table, column_mark, constraint_name, create_table, foreign_part, key_part, new_column_part, partitioning, range, reference};
 ghost use Rattle.def_grammar.specs.Reading.{◌>>◌, ◌or◌, gives, mapped, name, word};
-ghost use Rattle.std.specs.Prelude.{[], ◌∷◌, None, Some, codes, false, true};
+ghost use Rattle.std.specs.Prelude.{[], ◌∷◌, None, codes, false, true};
 ghost use Rattle.wh_base.specs.declared.statements.ColumnMark.TheVariants as marks;
 ghost use Rattle.wh_base.specs.declared.statements.PartChange.TheVariants.{Add, DropPart, Truncate};
 
