@@ -31,13 +31,19 @@ impl Rule for LogOption {
     }
 }
 
+fn is_wanted(option: bool, wanted: bool) -> bool
+    ensures { result ≡ is_option wanted option }
+{
+    if wanted { option } else { !option }
+}
+
 // How often an option is there: ROWID for true, SEQUENCE for false.
 fn count_of(options: &[bool], wanted: bool) -> usize
     ensures { result ≡ count_by (is_option wanted) options.now }
 {
     let mut count = 0;
     for option in options {
-        if *option == wanted {
+        if is_wanted(*option, wanted) {
             count += 1;
         }
     }
@@ -49,7 +55,7 @@ fn has_option(options: &[bool], wanted: bool) -> bool
     ensures { result ≡ list_any (is_option wanted) options.now }
 {
     for option in options {
-        if *option == wanted {
+        if is_wanted(*option, wanted) {
             return true;
         }
     }
