@@ -1,2 +1,3 @@
+pub mod Tails
 pub mod Lists
 pub mod Digits

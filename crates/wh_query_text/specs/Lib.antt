@@ -1,1 +1,3 @@
 pub mod Parse
+pub mod Pieces
+pub mod Tail

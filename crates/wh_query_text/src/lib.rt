@@ -3,6 +3,9 @@
 #![tactic(auto)]
 
 pub mod parser;
+pub mod query;
 pub mod rule;
 pub mod rules;
 pub mod spelling;
+#[cfg(test)]
+mod tests;

@@ -1,0 +1,22 @@
+ghost use Rattle.def_grammar.specs.Forms.{asked};
+
+use wh_base::statements::Asked;
+use wh_query_text::parser::{ParseFault, Parser};
+use wh_query_text::query::clauses::Select;
+use wh_query_text::rule::Rule;
+
+/// A query with a text that reads as its tokens.
+pub struct AskedQuery;
+
+impl Rule for AskedQuery {
+    type Output = Asked;
+
+    ghost reads = { asked };
+
+    fn read(parser: &mut Parser<'_>) -> Result<Asked, ParseFault> {
+        let place = parser.place();
+        let query = Select::read(parser)?;
+        let text = parser.spelled_since(&place)?;
+        Ok(Asked { query, text })
+    }
+}
