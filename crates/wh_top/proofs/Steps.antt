@@ -1,5 +1,5 @@
 -- The run of a setup, one command after another.
-use Rattle.std.proofs.Common.{◌≡◌, ◌∙◌, sym, ap, subst, refl, arith, rules, ℕ, suc, zero, ◌+◌, ◌<◌, ◌≤◌, List, [], ◌∷◌, ◌++◌, length, map, take}
+use Rattle.std.proofs.Common.{◌≡◌, ◌∙◌, sym, ap, subst, refl, arith, rules, ℕ, suc, ◌+◌, ◌≤◌, List, [], ◌∷◌, ◌++◌, length, map}
 use Rattle.std.proofs.lemmas.Bool.{and_parts}
 use Rattle.std.proofs.lemmas.Bool.Decides.{nat_tests}
 use Rattle.std.proofs.lemmas.List.{append-nil, append_assoc, length-append, map-append}
@@ -50,9 +50,9 @@ next_built commands done command rest trace built split trace_is =
     let apart : commands ≡ (done ++ command ∷ []) ++ rest = split ∙ sym (append_assoc done (command ∷ []) rest) in
     let front : commands_are_built (done ++ command ∷ []) ≡ true = built_front (done ++ command ∷ []) rest (sym (ap commands_are_built apart) ∙ all) in
     let next : commands_are_built (commands_of trace ++ command ∷ []) ≡ true =
-        ap (λ t. commands_are_built (commands_of t ++ command ∷ [])) trace_is
-        ∙ ap (λ cs. commands_are_built (cs ++ command ∷ [])) (same_commands 1 done)
-        ∙ front in
+    ap (λ t. commands_are_built (commands_of t ++ command ∷ [])) trace_is
+    ∙ ap (λ cs. commands_are_built (cs ++ command ∷ [])) (same_commands 1 done)
+    ∙ front in
     search (rules, next)
 
 -- ---- the run so far
@@ -76,13 +76,13 @@ begin before read = record {
 
 -- one command more, whose number is n
 pub step_run :
-  (done : List Command) (n : ℕ) (command : Command) (trace trace_after : List Event) (journal journal_after : List Entry) (before text text_after : List ℕ) (read_before read read_after : ℕ)
-  → n ≡ suc (length done)
-  → IsRun done trace journal before text read_before read
-  → trace_after ≡ trace ++ event_of (setup_id n) command ∷ []
-  → journal_after ≡ journal ++ record { session = 0; command = n; part = 1 } ∷ []
-  → IsTold trace (setup_id n) command text text_after read read_after
-  → IsRun (done ++ command ∷ []) trace_after journal_after before text_after read_before read_after
+    (done : List Command) (n : ℕ) (command : Command) (trace trace_after : List Event) (journal journal_after : List Entry) (before text text_after : List ℕ) (read_before read read_after : ℕ)
+    → n ≡ suc (length done)
+    → IsRun done trace journal before text read_before read
+    → trace_after ≡ trace ++ event_of (setup_id n) command ∷ []
+    → journal_after ≡ journal ++ record { session = 0; command = n; part = 1 } ∷ []
+    → IsTold trace (setup_id n) command text text_after read read_after
+    → IsRun (done ++ command ∷ []) trace_after journal_after before text_after read_before read_after
 step_run done n command trace trace_after journal journal_after before text text_after read_before read read_after number run longer entered told =
     let e : Event = event_of (setup_id n) command in
     let entry : Entry = record { session = 0; command = n; part = 1 } in

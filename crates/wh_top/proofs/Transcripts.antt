@@ -1,15 +1,14 @@
 -- What the events of a setup are, and how its transcript comes together from the replies in their order.
-use Rattle.std.proofs.Common.{◌≡◌, ◌∙◌, sym, ap, subst, refl, arith, ℕ, suc, zero, ◌+◌, ◌-◌, List, [], ◌∷◌, ◌++◌, length, map, take, Some}
+use Rattle.std.proofs.Common.{◌≡◌, ◌∙◌, sym, ap, subst, refl, arith, ℕ, suc, zero, ◌+◌, ◌-◌, List, [], ◌∷◌, ◌++◌, length, map, Some}
 use Rattle.std.proofs.lemmas.Grind.{flat_map-append}
 use Rattle.def_journal.specs.Journal.{Told, event_of, event_step, command_of, reply_to, given_by, no_command, order_of, replies_from, replies_of, state_after, trace_of}
 use Rattle.def_journal.specs.State.{State, empty_state}
 use Rattle.def_output.specs.Reads.{read_of, reads_of, session_reads, told_to}
 use Rattle.def_transcript.specs.Texts.{journal_line, lines_text, reply_lines}
-use Rattle.std.specs.Prelude.{get_or, nat_le, sum_by, fold, flat_map, filter, slice_get, unwrap_or, ◌&&◌, ◌||◌, ◌<◌, ◌==◌, Bool, true, false}
+use Rattle.std.specs.Prelude.{nat_le, sum_by, fold, flat_map, filter, slice_get, unwrap_or, ◌&&◌, ◌||◌, ◌<◌, ◌==◌, Bool, true, false}
 use Rattle.std.specs.List.{enumerate_from, list_all}
 use Rattle.std.proofs.lemmas.Bool.{and_parts}
-use Rattle.std.proofs.Math.Seq.{take-suc}
-use Rattle.std.proofs.lemmas.List.{append-nil, append_assoc, length-take-le, map-append}
+use Rattle.std.proofs.lemmas.List.{append-nil, append_assoc, map-append}
 use Rattle.std.proofs.lemmas.Bool.Decides.{nat_tests}
 use Rattle.std.proofs.lemmas.List.Sums.{sum_by-cons}
 use Rattle.def_built.specs.Commands.{commands_are_built, first_is_built, later_is_built, most_rows, rows_inserted}
