@@ -13,8 +13,7 @@ use wh_base::statements::{
 };
 use wh_base::txt::Txt;
 use wh_query_text::parser::{ParseFault, Parser};
-use wh_query_text::query::pieces::with_first;
-use wh_query_text::rule::{Bracketed, Either, Listed, Many, Rule};
+use wh_query_text::rule::{Bracketed, Either, Listed, Many, Rule, with_first};
 
 /// A column with the name of its table.
 pub struct TableColumnRule;

@@ -1,10 +1,11 @@
 ghost use Rattle.def_grammar.specs.Reading.{◌>>◌, ◌or◌, bracketed, listed, many, mark, maybe};
-ghost use Rattle.std.specs.Prelude.{◌≡◌, ◌∷◌, IfOk, List, Option, codes};
+ghost use Rattle.std.specs.Prelude.{◌∷◌, List, Option, codes};
 ghost use Rattle.wh_lex.specs.declared.token.Token.{Token};
 ghost use Rattle.wh_query_text.specs.Parse.{Gives};
+ghost use Rattle.wh_query_text.specs.Pieces.{Makes};
 
 use crate::parser::{ParseFault, Parser};
-use std::alloc::{AllocError, Global};
+use std::alloc::Global;
 use std::marker::PhantomData;
 use wh_base::seq::Seq;
 
@@ -118,16 +119,25 @@ impl<R: Rule> Rule for BehindComma<R> {
     }
 }
 
-/// An item and those after it, in no more memory than they take: a script may have many short lists. An error says that
-/// memory ran out.
-fn with_first<T: Drop>(alloc: Global, first: T, more: Seq<T>) -> Result<Seq<T>, AllocError>
-    ensures { IfOk result (λ items. items ≡ first ∷ more) }
+/// The item, and the others behind it, in no more memory than they take: a script may have many short lists. The one
+/// fault is want of memory.
+pub fn with_first<T: Drop>(alloc: Global, first: T, more: Seq<T>) -> Result<Seq<T>, ParseFault>
+    ensures { Makes result (first ∷ more) }
 {
     let mut more = more.into_vec();
-    let mut items = Vec::with_capacity(alloc, 1 + more.len())?;
-    items.push(first)?;
-    items.append(&mut more)?;
-    Seq::from_vec(items)
+    let Ok(mut items) = Vec::with_capacity(alloc, 1 + more.len()) else {
+        return Err(ParseFault::Memory);
+    };
+    let Ok(()) = items.push(first) else {
+        return Err(ParseFault::Memory);
+    };
+    let Ok(()) = items.append(&mut more) else {
+        return Err(ParseFault::Memory);
+    };
+    match Seq::from_vec(items) {
+        Ok(items) => Ok(items),
+        Err(_) => Err(ParseFault::Memory),
+    }
 }
 
 /// What a rule reads at least once, with commas between.
@@ -146,10 +156,7 @@ where
     fn read(parser: &mut Parser<'_>) -> Result<Seq<R::Output>, ParseFault> {
         let first = R::read(parser)?;
         let more = Many::<BehindComma<R>>::read(parser)?;
-        match with_first(parser.alloc(), first, more) {
-            Ok(items) => Ok(items),
-            Err(AllocError) => Err(ParseFault::Memory),
-        }
+        with_first(parser.alloc(), first, more)
     }
 }
 

@@ -8,8 +8,8 @@ use crate::query::aggregates::Aggregate;
 use crate::query::columns::Column;
 use crate::query::conditions::{Condition, Operator};
 use crate::query::items::Item;
-use crate::query::pieces::{AllOf, OptionalList, skip_word, with_first};
-use crate::rule::{Bracketed, Either, Listed, Many, Maybe, Rule};
+use crate::query::pieces::{AllOf, OptionalList, skip_word};
+use crate::rule::{Bracketed, Either, Listed, Many, Maybe, Rule, with_first};
 use crate::rules::{AnyLiteral, PlainName};
 use wh_base::queries::{
     ColName, RawCondition, RawJoin, RawKey, RawOrder, RawQuery, RawTable, RawTest,

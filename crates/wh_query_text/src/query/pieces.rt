@@ -1,27 +1,12 @@
 ghost use Rattle.def_grammar.specs.Query.{all_of};
 ghost use Rattle.def_grammar.specs.Reading.{◌>>◌, maybe, optional_list, word};
-ghost use Rattle.std.specs.Prelude.{◌≡◌, ◌∷◌, Some, codes};
-ghost use Rattle.wh_query_text.specs.Pieces.{Makes, word_there};
+ghost use Rattle.std.specs.Prelude.{◌≡◌, Some, codes};
+ghost use Rattle.wh_query_text.specs.Pieces.{word_there};
 
 use crate::parser::{ParseFault, Parser};
-use crate::rule::{Many, Maybe, Rule};
-use std::alloc::Global;
+use crate::rule::{Many, Maybe, Rule, with_first};
 use std::marker::PhantomData;
 use wh_base::seq::Seq;
-
-/// The item, and the others behind it. The one fault is want of memory.
-pub fn with_first<T: Drop>(alloc: Global, first: T, more: Seq<T>) -> Result<Seq<T>, ParseFault>
-    ensures { Makes result (first ∷ more) }
-{
-    let mut items = Seq::new(alloc);
-    let Ok(()) = items.push(first) else {
-        return Err(ParseFault::Memory);
-    };
-    let Ok(()) = items.append(more) else {
-        return Err(ParseFault::Memory);
-    };
-    Ok(items)
-}
 
 /// Takes this keyword where it is next.
 pub fn skip_word(parser: &mut Parser<'_>, text: &[u8])
