@@ -25,6 +25,16 @@ IfBad (Err faults.Failed) P = Unit {0}
 IfBad (Err faults.TooLong) P = Unit {0}
 IfBad (Err (faults.Bad b)) P = P b
 
+-- all bytes were read, and they were found to be a script or none
+abbrev pub IsOfBytes : Status → Type 0
+IsOfBytes statuses.Done = Unit {0}
+IsOfBytes statuses.WriteFault = Unit {0}
+IsOfBytes (statuses.BadScript line kind) = Unit {0}
+IsOfBytes statuses.NoMemory = ⊥
+IsOfBytes statuses.BadWords = ⊥
+IsOfBytes statuses.ReadFault = ⊥
+IsOfBytes statuses.TooLong = ⊥
+
 -- nothing is written
 abbrev pub IsSilent : Status → Type 0
 IsSilent statuses.Done = ⊥

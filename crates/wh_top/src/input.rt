@@ -1,4 +1,4 @@
-ghost use Rattle.std.specs.Prelude.{◌≡◌, ◌<◌, None, Some, IfOk, IfSome, IsErrOf, OnOk, length, true};
+ghost use Rattle.std.specs.Prelude.{◌≡◌, ◌<◌, ◌≤◌, None, Some, IfOk, IfSome, IsErrOf, OnOk, length, true};
 ghost use Rattle.std.specs.Io.KnownBytes.{IsAtEnd};
 ghost use Rattle.def_built.specs.Form.{built_script, script_is_built};
 ghost use Rattle.wh_io.specs.Causes.{Rose};
@@ -30,11 +30,13 @@ const MOST_BYTES: usize = 8388608;
 /// the script makes.
 pub fn read_input<S: Source>(alloc: Global, source: &mut S) -> Result<Script, InputFault>
     ensures script { IfOk result (λ script. IfSome (S.left source.old) (λ bytes. built_script bytes ≡ Some script)) }
+    ensures short { IfOk result (λ script. IfSome (S.left source.old) (λ bytes. length bytes ≤ most_bytes)) }
     ensures built { IfOk result (λ script. script_is_built script ≡ true) }
     ensures end { OnOk result (IsAtEnd (S.left source.new)) }
     ensures failed { IsErrOf result InputFault.Failed → Rose (S.faults source.old) (S.faults source.new) }
     ensures too_long { IsErrOf result InputFault.TooLong → IfSome (S.left source.old) (λ bytes. most_bytes < length bytes) }
     ensures bad { IfBad result (λ b. IfSome (S.left source.old) (λ bytes. built_script bytes ≡ None) × (b ≡ not_built)) }
+    ensures bad_short { IfBad result (λ b. IfSome (S.left source.old) (λ bytes. length bytes ≤ most_bytes)) }
 {
     let bytes = match read_all(alloc, source, MOST_BYTES) {
         Ok(bytes) => bytes,

@@ -2,7 +2,7 @@ ghost use Rattle.std.specs.Prelude.{◌≡◌, ◌++◌, ◌+◌, ◌∷◌, ◌
 ghost use Rattle.std.specs.Io.KnownBytes.{Appends, IsAtEnd};
 ghost use Rattle.def_built.specs.Form.{built_script, script_is_built};
 ghost use Rattle.wh_io.specs.Causes.{Rose, AppendsPart};
-ghost use Rattle.wh_top.specs.Endings.{IfBadScript, IsSilent, IsUnread, IsWritten};
+ghost use Rattle.wh_top.specs.Endings.{IfBadScript, IsOfBytes, IsSilent, IsUnread, IsWritten};
 ghost use Rattle.wh_top.specs.Top.{Counted, is_order, most_bytes, output_of, reads_in};
 
 use crate::input::{InputFault, read_input};
@@ -64,6 +64,7 @@ pub fn top_order<S: Source, K: Sink, L>(
     ensures bad_words { (result ≡ Status.BadWords) ↔ (is_order words.now ≡ false) }
     ensures read_fault { result ≡ Status.ReadFault → Rose (S.faults source.old) (S.faults source.new) }
     ensures too_long { result ≡ Status.TooLong → IfSome (S.left source.old) (λ bytes. most_bytes < length bytes) }
+    ensures short { IsOfBytes result → IfSome (S.left source.old) (λ bytes. length bytes ≤ most_bytes) }
     ensures bad_script { IfBadScript result (λ line kind. IfSome (S.left source.old) (λ bytes. built_script bytes ≡ None)
         × (line ≡ 1) × (kind ≡ ScriptKind.NotBuilt)) }
     ensures write_fault { result ≡ Status.WriteFault → Rose (K.faults sink.old) (K.faults sink.new) }
