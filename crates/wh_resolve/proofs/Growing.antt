@@ -1,6 +1,6 @@
 -- A tree that grows table by table, and stays where no table can be added.
-use Rattle.std.proofs.Common.{◌≡◌, ◌∙◌, ap, refl, sym, ℕ, zero, suc, List, length, Option, Some, None}
-use Rattle.def_resolve.specs.Star.{Tree, grow, next_branch, tree_from, with_branch}
+use Rattle.std.proofs.Common.{◌≡◌, ◌∙◌, ap, refl, sym, ℕ, zero, suc, List, Some, None}
+use Rattle.def_resolve.specs.Star.{Tree, grow, next_branch, with_branch}
 use Rattle.wh_base.specs.declared.queries.Edge.{Edge}
 use Rattle.wh_base.specs.declared.tables.TableDef.{TableDef}
 

@@ -1,5 +1,5 @@
 -- That a loop over places finds what `position` does.
-use Rattle.std.proofs.Common.{◌≡◌, refl, arith, ℕ, ◌<◌, Bool, true, false, List, length, Option, Some, None}
+use Rattle.std.proofs.Common.{◌≡◌, refl, arith, ℕ, ◌<◌, Bool, true, false, List, length, Some, None}
 use Rattle.std.specs.Prelude.{position, nat_lt}
 use Rattle.std.proofs.lemmas.Bool.Decides.{nat_tests}
 use Rattle.std.specs.List.{position_or_len}

@@ -1,5 +1,5 @@
 -- A query is refused for its first table that isn't there, before its names are asked.
-use Rattle.std.proofs.Common.{◌≡◌, ◌∙◌, ap, refl, sym, List, [], ◌∷◌, Option, Some, None, Err, Ok, Bool, true, false, not}
+use Rattle.std.proofs.Common.{◌≡◌, ◌∙◌, ap, List, [], ◌∷◌, Option, Some, None, Err, Ok, Bool, true, false, not}
 use Rattle.std.specs.Prelude.{Result}
 use Rattle.def_resolve.specs.Names.{Source, column_named, names_refusal, sources_of, table_refusal}
 use Rattle.def_resolve.specs.Resolve.{first_table, kinds_refusal, resolve, star_form}

@@ -1,4 +1,4 @@
-ghost use Rattle.std.specs.Prelude.{◌≡◌, ◌∷◌, ◌++◌, ◌<◌, ◌^◌, IfOk, List, length, map, not, position, is_some, Result, unwrap_or};
+ghost use Rattle.std.specs.Prelude.{◌≡◌, ◌<◌, ◌^◌, IfOk, length, map, not, position, is_some, unwrap_or};
 ghost use Rattle.std.specs.List.{list_all};
 ghost use Rattle.def_resolve.specs.Names.{column_named};
 ghost use Rattle.def_resolve.specs.Resolve.{first_table, grouping_holds, item_is_grouped, order_item, resolved_item, resolved_key, star_form, star_query};

@@ -1,8 +1,8 @@
 ghost use Rattle.std.specs.List.{list_any};
-ghost use Rattle.std.specs.Prelude.{◌≡◌, ◌∷◌, ◌++◌, ◌^◌, ◌≤◌, IfOk, List, Option, ℕ, [], length, None, Some, not};
-ghost use Rattle.def_resolve.specs.Kinds.{agg_refusal, agg_sort, agrees, column_compare_refusal, column_sort, compare_refusal, equal_refusal, expr_sort, is_summed, is_too_long, literal_sort, literal_table, misfit, misfit_at, misfit_literal, part_sort, printed_part, product_refusal, sort_of_kind, sum_refusal, summed_refusal, test_refusal};
+ghost use Rattle.std.specs.Prelude.{◌≡◌, ◌∷◌, IfOk, [], not};
+ghost use Rattle.def_resolve.specs.Kinds.{agg_refusal, agg_sort, agrees, column_compare_refusal, column_sort, compare_refusal, equal_refusal, is_summed, is_too_long, literal_sort, literal_table, misfit, misfit_at, misfit_literal, part_sort, printed_part, product_refusal, sum_refusal, summed_refusal, test_refusal};
 ghost use Rattle.wh_base.specs.Columns.{agg_columns};
-ghost use Rattle.wh_base.specs.Lists.{head, option_case};
+ghost use Rattle.wh_base.specs.Lists.{head};
 ghost use Rattle.wh_base.specs.Tables.{def_at};
 ghost use Rattle.wh_base.specs.declared.values.Literal.TheVariants.{Number};
 ghost use Rattle.wh_resolve.specs.Sorts.{meant};

@@ -1,5 +1,5 @@
 ghost use Rattle.std.specs.Prelude.{◌≡◌, IfOk, List, Option, ℕ, flat_map};
-ghost use Rattle.def_resolve.specs.Kinds.{agg_refusal, condition_refusal, equal_refusal, test_refusal};
+ghost use Rattle.def_resolve.specs.Kinds.{condition_refusal, equal_refusal, test_refusal};
 ghost use Rattle.def_resolve.specs.Names.{column_named};
 ghost use Rattle.def_resolve.specs.Resolve.{join_of_table, kinds_refusal, order_kind_refusal, resolved_agg, what_refusal};
 ghost use Rattle.wh_base.specs.Lists.{first_of};

@@ -1,4 +1,4 @@
-ghost use Rattle.std.specs.Prelude.{◌≡◌, ◌∷◌, ◌++◌, ◌<◌, ◌^◌, IfOk, None, Some, List, length, unwrap_or};
+ghost use Rattle.std.specs.Prelude.{◌≡◌, IfOk};
 ghost use Rattle.def_resolve.specs.Names.{column_in, column_named, column_of, is_qualified_by, name_refusal, name_text, part_named, part_text};
 ghost use Rattle.wh_base.specs.Tables.{column_number};
 

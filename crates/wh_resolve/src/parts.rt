@@ -1,4 +1,4 @@
-ghost use Rattle.std.specs.Prelude.{◌≡◌, ◌∷◌, ◌++◌, IfOk, OnOk, List, [], flat_map, map, not, length};
+ghost use Rattle.std.specs.Prelude.{◌≡◌, ◌++◌, IfOk, OnOk, flat_map, map};
 ghost use Rattle.def_resolve.specs.Names.{column_named};
 ghost use Rattle.def_resolve.specs.Resolve.{is_agg, is_grouped, join_of_condition, join_of_table, joins_of, resolved_agg, resolved_condition, resolved_expr, resolved_item, resolved_test};
 ghost use Rattle.wh_base.specs.Values.{literal_value};

@@ -1,9 +1,7 @@
-ghost use Rattle.std.specs.Prelude.{◌≡◌, ◌<◌, ◌^◌, IfOk, None, Some, length, unwrap_or};
+ghost use Rattle.std.specs.Prelude.{◌≡◌, ◌<◌, ◌^◌, IfOk, length, unwrap_or};
 ghost use Rattle.def_resolve.specs.Names.{source_of, sources_of, table_refusal};
-ghost use Rattle.std.specs.List.{filter_map};
-ghost use Rattle.wh_base.specs.Lists.{first_of, option_case, same_text};
+ghost use Rattle.wh_base.specs.Lists.{same_text};
 ghost use Rattle.wh_base.specs.Tables.{table_number};
-ghost use Rattle.wh_base.specs.declared.replies.Refusal.TheVariants.{NoSuchObject};
 
 use std::alloc::{AllocError, Global};
 use std::marker::Model;

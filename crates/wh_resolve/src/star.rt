@@ -1,4 +1,4 @@
-ghost use Rattle.std.specs.Prelude.{◌≡◌, ◌∷◌, ◌++◌, ◌<◌, ◌^◌, IfOk, OnOk, [], None, Some, length};
+ghost use Rattle.std.specs.Prelude.{◌≡◌, ◌∷◌, ◌<◌, ◌^◌, IfOk, OnOk, [], Some, length};
 ghost use Rattle.def_resolve.specs.Star.{branch_to, directed, is_key_column, is_repeated_number, leads_to, next_branch, spanning, star_of, tree_from, turned, with_branch};
 ghost use Rattle.wh_base.specs.Lists.{first_of, has_number};
 ghost use Rattle.wh_base.specs.Tables.{is_key};

@@ -1,4 +1,4 @@
-ghost use Rattle.std.specs.Prelude.{◌≡◌, ◌∷◌, ◌++◌, IfOk, List, [], flat_map, length, None, false};
+ghost use Rattle.std.specs.Prelude.{◌≡◌, ◌∷◌, IfOk, List, [], flat_map, false};
 ghost use Rattle.def_resolve.specs.Names.{agg_names, called_by, condition_names, expr_names, item_at_position, item_called, join_names, name_refusal, names_refusal, order_refusal, query_names, what_names};
 ghost use Rattle.wh_base.specs.Lists.{first_of, option_case, same_text};
 ghost use Rattle.wh_base.specs.Values.{int_text};
