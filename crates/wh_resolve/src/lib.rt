@@ -9,6 +9,8 @@ mod parts;
 mod query;
 mod sources;
 mod star;
+#[cfg(test)]
+mod tests;
 mod unknown;
 
 pub use query::{QueryFault, resolve};
