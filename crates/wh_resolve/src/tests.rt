@@ -5,7 +5,6 @@ use wh_base::queries::{
     ColName, NamePart, RawAgg, RawCondition, RawItem, RawKey, RawOrder, RawQuery, RawTable,
     RawTest, RawWhat, StarQuery,
 };
-use wh_base::replies::Refusal;
 use wh_base::seq::Seq;
 use wh_base::tables::{ColumnDef, Kind, TableDef};
 use wh_base::txt::Txt;
@@ -82,15 +81,12 @@ fn query(
     })
 }
 
-// The number of the refusal, and 0 for a star form.
-fn told(answer: Result<StarQuery, QueryFault>) -> u32 {
+// What an answer is.
+fn told(answer: &Result<StarQuery, QueryFault>) -> &'static str {
     match answer {
-        Ok(_) => 0,
-        Err(QueryFault::Memory) => 99,
-        Err(QueryFault::Refused(Refusal::NoSuchObject(_))) => 2,
-        Err(QueryFault::Refused(Refusal::NoSuchColumn(_))) => 3,
-        Err(QueryFault::Refused(Refusal::ValueDoesNotFit(_, _))) => 4,
-        Err(QueryFault::Refused(_)) => 98,
+        Ok(_) => "star form",
+        Err(QueryFault::Refused(_)) => "refused",
+        Err(QueryFault::Memory) => "memory",
     }
 }
 
@@ -100,16 +96,16 @@ fn answer(
     name: &[u8],
     number: i128,
     position: i128,
-) -> Result<u32, AllocError> {
+) -> Result<&'static str, AllocError> {
     let defs = one(alloc, sales(alloc)?)?;
     let raw = query(alloc, table, name, number, position)?;
-    Ok(told(resolve(alloc, &defs, &raw)))
+    Ok(told(&resolve(alloc, &defs, &raw)))
 }
 
 #[test]
 fn answers(rt: HostRuntime) -> Result<(), Fail> {
     let alloc = rt.alloc();
-    assert_eq!(rt; answer(alloc, b"SALES", b"STORE", 1, 1)?, 0);
-    assert_eq!(rt; answer(alloc, b"SHOPS", b"STORE", 1, 1)?, 2);
+    assert_eq!(rt; answer(alloc, b"SALES", b"STORE", 1, 1)?, "star form");
+    assert_eq!(rt; answer(alloc, b"SHOPS", b"STORE", 1, 1)?, "refused");
     Ok(())
 }
