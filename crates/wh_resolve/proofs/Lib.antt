@@ -1,0 +1,5 @@
+pub mod Places
+pub mod Firsts
+pub mod Repeats
+pub mod Growing
+pub mod Whole
