@@ -1,0 +1,4 @@
+pub mod Ends
+pub mod Spaces
+pub mod Counts
+pub mod Numbers
