@@ -2,3 +2,4 @@ pub mod Ends
 pub mod Spaces
 pub mod Counts
 pub mod Numbers
+pub mod Records
