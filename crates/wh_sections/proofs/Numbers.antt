@@ -75,6 +75,7 @@ session_number-digits w = by_number (session_number w) refl
     by_test : (t : Bool) → is_session (two_digits w) w ≡ t → session_number w ≡ None → where_true t (two_digits w) ≡ None
     by_test false e none = refl
     by_test true e none = let some : session_number w ≡ Some (two_digits w) = (is_session-means (two_digits w) w e).reads in cc
+
     by_number : (o : Option ℕ) → session_number w ≡ o → session_by_digits w ≡ session_number w
     by_number None e = by_test (is_session (two_digits w) w) refl e ∙ sym e
     by_number (Some m) e =

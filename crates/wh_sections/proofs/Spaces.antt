@@ -53,7 +53,7 @@ pub words_in-word : (bs rest : List ℕ) (n : ℕ) → words_in rest ≡ words_i
 words_in-word bs rest n same e h =
     let some : 0 < word_of rest = subst (λ k. 0 < k) e h in
     let all : words_in rest ≡ take (word_of rest) rest ∷ words_in (drop (word_of rest) rest) =
-        ap some_of (split_spaces-first rest) ∙ kept (word_of rest) rest (behind rest) some (word_within rest some) ∙ ap (λ ws. take (word_of rest) rest ∷ ws) (words_behind rest) in
+    ap some_of (split_spaces-first rest) ∙ kept (word_of rest) rest (behind rest) some (word_within rest some) ∙ ap (λ ws. take (word_of rest) rest ∷ ws) (words_behind rest) in
     subst (λ k. words_in bs ≡ take k rest ∷ words_in (drop k rest)) (sym e) (sym same ∙ all)
 
 -- behind the spaces in front there is a word, or nothing

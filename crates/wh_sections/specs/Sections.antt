@@ -1,5 +1,5 @@
 -- How what the code reads of a script has to do with its definition.
-use Rattle.std.specs.Prelude.{Bool, Err, List, None, Ok, Option, Result, Some, [], cond, decimal, filter, is_none, length, nat_le, not, take_while, ℕ, ◌&&◌, ◌==◌, ◌+◌, ◌-◌, ◌*◌, ◌∷◌, ◌≡◌}
+use Rattle.std.specs.Prelude.{Bool, Err, List, None, Ok, Option, Result, Some, [], cond, decimal, filter, is_none, length, nat_le, not, take_while, ℕ, ◌&&◌, ◌==◌, ◌+◌, ◌-◌, ◌*◌, ◌<◌, ◌^◌, ◌∷◌, ◌≡◌}
 use Rattle.def_grammar.specs.Lines as defs
 use Rattle.def_grammar.specs.Lines.{content_of, directive_by_words, words_in}
 use Rattle.wh_base.specs.Lists.{same_text, where_true}
@@ -65,3 +65,8 @@ is_session n w = (nat_le 1 n && nat_le n 64) && same_text (decimal n) w
 -- a session number by the one or two digits that it has to be
 abbrev pub session_by_digits : List ℕ → Option ℕ
 session_by_digits w = where_true (is_session (two_digits w) w) (two_digits w)
+
+-- the words of an order stand in fewer than 2 ^ 32 bytes
+abbrev pub HasFewBytes : Directive → Type 0
+HasFewBytes (ours.Order rest) = length rest.now < 2 ^ 32
+HasFewBytes d = Unit {0}

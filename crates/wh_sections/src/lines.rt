@@ -3,7 +3,7 @@ ghost use Rattle.def_grammar.specs.Lines.{content_of, directive_of, load_of_name
 ghost use Rattle.def_grammar.specs.Script.{line_at, session_number};
 ghost use Rattle.std.specs.Prelude.{◌≡◌, ◌<◌, ◌≤◌, ◌^◌, ◌==◌, ◌+◌, [], ◌∷◌, IfOk, IfSome, count_by, decimal, length, take_while};
 ghost use Rattle.wh_base.specs.Lists.{last, option_nat_is, same_text};
-ghost use Rattle.wh_sections.specs.Sections.{HasTwo, IsNextWord, directive_in, is_session, is_space, meant, session_by_digits, two_digits, word_of};
+ghost use Rattle.wh_sections.specs.Sections.{HasFewBytes, HasTwo, IsNextWord, directive_in, is_session, is_space, meant, session_by_digits, two_digits, word_of};
 
 use itoa::Buffer;
 use std::alloc::{AllocError, Global};
@@ -98,6 +98,7 @@ fn behind_spaces(bytes: &[u8]) -> &[u8]
 pub fn next_word(bytes: &[u8]) -> Option<NextWord<'_>>
     ensures next { IsNextWord bytes.now result }
     ensures within { IfSome result (λ w. length w.word.now + length w.rest.now ≤ length bytes.now) }
+    ensures shorter { IfSome result (λ w. length w.rest.now < length bytes.now) }
 {
     let rest = behind_spaces(bytes);
     let len = word_len(rest);
@@ -113,7 +114,8 @@ pub fn next_word(bytes: &[u8]) -> Option<NextWord<'_>>
 /// An error says that memory ran out.
 pub fn directive_on(alloc: Global, raw: &[u8]) -> Result<Directive<'_>, AllocError>
     requires { length raw.now < 2 ^ 32 }
-    ensures { IfOk result (λ d. meant d ≡ directive_in raw.now) }
+    ensures directive { IfOk result (λ d. meant d ≡ directive_in raw.now) }
+    ensures few { IfOk result HasFewBytes }
 {
     let Some(first) = next_word(content_of(raw)) else {
         return Ok(Directive::Unknown);
@@ -135,8 +137,10 @@ fn is(word: &[u8], name: &[u8]) -> bool
 
 // The directive without a word behind its first.
 fn alone<'a>(word: &[u8], rest: &'a [u8]) -> Directive<'a>
-    requires { words_in rest.now ≡ [] }
-    ensures { meant result ≡ directive_of word.now [] }
+    requires words { words_in rest.now ≡ [] }
+    requires small { length rest.now < 2 ^ 32 }
+    ensures directive { meant result ≡ directive_of word.now [] }
+    ensures few { HasFewBytes result }
 {
     if is(word, b"@setup") {
         Directive::Setup
@@ -159,7 +163,9 @@ fn with_one<'a>(
 ) -> Result<Directive<'a>, AllocError>
     requires words { words_in rest.now ≡ second.now ∷ [] }
     requires few { length second.now < 2 ^ 32 }
-    ensures { IfOk result (λ d. meant d ≡ directive_of word.now (second.now ∷ [])) }
+    requires small { length rest.now < 2 ^ 32 }
+    ensures directive { IfOk result (λ d. meant d ≡ directive_of word.now (second.now ∷ [])) }
+    ensures few { IfOk result HasFewBytes }
 {
     if is(word, b"@session") {
         Ok(Directive::Session(second))
@@ -174,8 +180,10 @@ fn with_one<'a>(
 
 // The directive with two words or more behind its first.
 fn with_many<'a>(word: &[u8], rest: &'a [u8]) -> Directive<'a>
-    requires { HasTwo (words_in rest.now) }
-    ensures { meant result ≡ directive_of word.now (words_in rest.now) }
+    requires words { HasTwo (words_in rest.now) }
+    requires small { length rest.now < 2 ^ 32 }
+    ensures directive { meant result ≡ directive_of word.now (words_in rest.now) }
+    ensures few { HasFewBytes result }
 {
     if is(word, b"@order") {
         Directive::Order(rest)
@@ -187,7 +195,8 @@ fn with_many<'a>(word: &[u8], rest: &'a [u8]) -> Directive<'a>
 // `@load` of a word, which has to be a name.
 fn load_of<'a>(alloc: Global, word: &'a [u8]) -> Result<Directive<'a>, AllocError>
     requires { length word.now < 2 ^ 32 }
-    ensures { IfOk result (λ d. meant d ≡ load_of_name (name_in word.now)) }
+    ensures directive { IfOk result (λ d. meant d ≡ load_of_name (name_in word.now)) }
+    ensures few { IfOk result HasFewBytes }
 {
     match name_in(alloc, word) {
         Ok(Some(name)) => Ok(Directive::Load(name)),

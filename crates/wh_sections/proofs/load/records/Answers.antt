@@ -10,8 +10,7 @@ loop-turn-init c =
     let fr = c.from_reader-reader.ensures in
     let e1 = c.has_headers.ensures in
     let e2 = c.flexible.ensures in
-    let n : length c.args.block.now + 1 - 0 ≡ suc (length c.args.block.now) = omega arith in
-    (
+    let n : length c.args.block.now + 1 - 0 ≡ suc (length c.args.block.now) = omega arith in (
       rw (e2, e1) at fr.trim ∙ c.new.ensures.trim,
       inr (inr (rw (e2, e1) at fr.has_headers, fr.headers)),
       rw (e2, e1) at fr.config ∙ c.new.ensures.config,
@@ -36,7 +35,12 @@ loop-turn-preserved c =
     let n : ℕ = length c.args.block.now - c.loop-turn.turn in
     let more : length c.args.block.now + 1 - c.loop-turn.turn ≡ suc n = omega (arith, c.loop-turn-test.true) in
     let less : length c.args.block.now + 1 - (c.loop-turn.turn + 1) ≡ n = omega arith in
-    let m = records-found n c.loop-turn.reader.state inv.3 _ _ c.read_byte_record.new.self.state (rw (inv.2, inv.4) at s.0) in
-    (s.3 ∙ inv.0, inl (c.in-Ok-true.ensures.ready inv.0), s.2 ∙ inv.2, m.0, rw s.1 m.1,
+    let m = records-found n c.loop-turn.reader.state inv.3 _ _ c.read_byte_record.new.self.state (rw (inv.2, inv.4) at s.0) in (
+      s.3 ∙ inv.0,
+      inl (c.in-Ok-true.ensures.ready inv.0),
+      s.2 ∙ inv.2,
+      m.0,
+      rw s.1 m.1,
       step-found c.loop-turn.rows c.push.new.self c.in_ok-row_of-in-Ok-true.field-0 _ _ _ n c.loop-turn.reader.state c.read_byte_record.new.self.state inv.3 m.0 _ more less
-        c.in_ok-push-in-Ok-true.ensures.ok c.in_ok-row_of-in-Ok-true.ensures inv.5 m.2)
+          c.in_ok-push-in-Ok-true.ensures.ok c.in_ok-row_of-in-Ok-true.ensures inv.5 m.2,
+    )
