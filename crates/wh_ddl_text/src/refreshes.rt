@@ -95,8 +95,10 @@ fn only_name(
     }
 }
 
-// The name that a text is, from its first byte to its last.
-fn name_in(alloc: Global, text: &[u8]) -> Result<Option<Txt>, ParseFault>
+/// The name that a text is, from its first byte to its last, and `None` where it is none.
+///
+/// `Memory` says that memory ran out; there is no other error.
+pub fn name_in(alloc: Global, text: &[u8]) -> Result<Option<Txt>, ParseFault>
     requires { length text.now < 2 ^ 32 }
     ensures { Makes result (name_in text.now) }
 {
