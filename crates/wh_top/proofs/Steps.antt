@@ -2,7 +2,7 @@
 use Rattle.std.proofs.Common.{◌≡◌, ◌∙◌, sym, ap, subst, refl, arith, rules, ℕ, suc, ◌+◌, ◌≤◌, List, [], ◌∷◌, ◌++◌, length, map}
 use Rattle.std.proofs.lemmas.Bool.{and_parts}
 use Rattle.std.proofs.lemmas.Bool.Decides.{nat_tests}
-use Rattle.std.proofs.lemmas.List.{append-nil, append_assoc, length-append, map-append}
+use Rattle.std.proofs.lemmas.List.{append_assoc, length-append, map-append}
 use Rattle.std.proofs.lemmas.List.Sums.{sum_by-cons}
 use Rattle.std.specs.List.{list_all}
 use Rattle.std.specs.Prelude.{◌&&◌, IsTrue, nat_le, sum_by, true}
@@ -64,15 +64,6 @@ pub record IsRun (done : List Command) (trace : List Event) (journal : List Entr
   pub text_is : text ≡ before ++ told_text (replies_of trace)
   pub each : AreTold (length done) (replies_of trace)
   pub read_is : read ≡ read_before + reads_of (replies_of trace)
-
-pub begin : (before : List ℕ) (read : ℕ) → IsRun [] [] [] before before read read
-begin before read = record {
-  trace_is = refl;
-  journal_is = refl;
-  text_is = sym (append-nil before);
-  each = refl;
-  read_is = omega arith;
-}
 
 -- one command more, whose number is n
 pub step_run :
