@@ -2,6 +2,7 @@ ghost use Rattle.std.specs.Prelude.{◌≡◌, ◌-◌, ◌<◌, ◌≤◌, IsOk
 ghost use Rattle.std.specs.FinMap as map;
 ghost use Rattle.wh_keyindex.specs.Marks.{is_marked, unmarked};
 
+use crate::marks::is_marked;
 use indexmap::IndexMap;
 use std::alloc::{AllocError, Global};
 use std::marker::Model;
@@ -107,15 +108,5 @@ impl KeyIndex {
                 ensures { (result ≡ not (is_marked gone.entry.now place.old)) × (place.new ≡ place.old) }
             { !is_marked(gone, *place) },
         );
-    }
-}
-
-/// Whether a place is marked.
-fn is_marked(gone: &Seq<bool>, place: u64) -> bool
-    ensures { result ≡ is_marked gone.now place }
-{
-    match gone.get(place as usize) {
-        Some(mark) => *mark,
-        None => false,
     }
 }
