@@ -1,13 +1,10 @@
-// A library with one function.
+//! The versions of the rows of a table, in chunks that copies share.
 #![tactic(auto)]
 
-ghost use Rattle.std.specs.Prelude.{◌≡◌};
-ghost use Rattle.wh_segment.specs.Echo.{echo_of};
+mod chunk;
+mod chunk_list;
+mod segment;
+mod version;
 
-// The `ensures` clause is the contract: what `echo` returns is `echo_of` of its argument, a definition
-// in `specs/Echo.antt`, which a caller's clause can cite too.
-pub fn echo(x: usize) -> usize
-    ensures { result ≡ echo_of x }
-{
-    x
-}
+pub use segment::Segment;
+pub use version::Version;
