@@ -229,8 +229,8 @@ pub counted_there : {S T : Type 0} (counts : IndexMap Value ℕ T) (numbers : In
 counted_there counts numbers place number are_counted there =
     let value = value_at (keys counts) number in
     let law =
-        passing-remove nat_cmp_total fin.nat_cmp-IsAntisymmetric (same_value value) (values_of (keys counts) numbers.entries) place value
-        (find_number (keys counts) numbers.entries place ∙ ap (option_map (value_at (keys counts))) there) in
+    passing-remove nat_cmp_total fin.nat_cmp-IsAntisymmetric (same_value value) (values_of (keys counts) numbers.entries) place value
+    (find_number (keys counts) numbers.entries place ∙ ap (option_map (value_at (keys counts))) there) in
     let one : one_if (same_value value value) ≡ 1 = ap one_if ((same_value-Decides value value).1 refl) in
     let all = are_counted value in
     omega (arith, law, one, all)
@@ -247,16 +247,16 @@ counts_removed counts counts' old new place number same updates removes there ar
     by true e =
         let w = value_at (keys counts) number in
         let law =
-            passing-remove nat_cmp_total fin.nat_cmp-IsAntisymmetric (same_value v) (values_of (keys counts) old.entries) place w
-            (find_number (keys counts) old.entries place ∙ ap (option_map (value_at (keys counts))) there) in
+        passing-remove nat_cmp_total fin.nat_cmp-IsAntisymmetric (same_value v) (values_of (keys counts) old.entries) place w
+        (find_number (keys counts) old.entries place ∙ ap (option_map (value_at (keys counts))) there) in
         let one : one_if (same_value v w) ≡ 1 = ap one_if (sym (same_turns w v) ∙ e) in
         let is : count_in counts w ≡ places_with v (values_of (keys counts) old.entries) = are_counted w ∙ ap (λ u. places_with u (values_of (keys counts) old.entries)) (equal_values w v e) in
         omega (arith, law, one, is)
     by false e =
         let w = value_at (keys counts) number in
         let law =
-            passing-remove nat_cmp_total fin.nat_cmp-IsAntisymmetric (same_value v) (values_of (keys counts) old.entries) place w
-            (find_number (keys counts) old.entries place ∙ ap (option_map (value_at (keys counts))) there) in
+        passing-remove nat_cmp_total fin.nat_cmp-IsAntisymmetric (same_value v) (values_of (keys counts) old.entries) place w
+        (find_number (keys counts) old.entries place ∙ ap (option_map (value_at (keys counts))) there) in
         let none : one_if (same_value v w) ≡ 0 = ap one_if (sym (same_turns w v) ∙ e) in
         let before = are_counted v in
         omega (arith, law, none, before)

@@ -40,7 +40,11 @@ fn keys_and_values_come_and_go(rt: HostRuntime) -> Result<(), Fail> {
     assert_eq!(rt; places(&keys, &a), [Some(5), None, Some(1)], "two keys");
     keys.insert(Value::Num(2), 7);
     assert_eq!(rt; keys.remove(&Value::Num(1)), Some(5));
-    assert_eq!(rt; places(&keys, &a), [None, Some(7), Some(1)], "one taken out");
+    assert_eq!(rt;
+        places(&keys, &a),
+        [None, Some(7), Some(1)],
+        "one taken out"
+    );
     keys.drop_places(&marks(alloc, [false, true].as_slice())?);
     assert_eq!(rt; places(&keys, &a), [None, Some(7), None], "place 1 marked");
     assert_eq!(rt; keys.len(), 1);

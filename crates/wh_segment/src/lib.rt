@@ -3,8 +3,13 @@
 
 mod chunk;
 mod chunk_list;
+mod meaning;
 mod segment;
 mod version;
 
+pub use meaning::laws;
 pub use segment::Segment;
 pub use version::Version;
+
+#[cfg(test)]
+mod tests;

@@ -180,6 +180,7 @@ impl<L> Segment<L> {
 }
 
 /// Removes the versions that died at an SCN or before it, and gives how many. An error says that memory ran out.
+#[tactic(auto, using(crate::proofs::Removing::removing))]
 fn remove_past(
     versions: &mut ChunkList<Version>,
     alloc: Global,

@@ -29,7 +29,7 @@ invariant_of-self c =
 pub returns : goal.returns
 returns c =
     let values =
-        values_added c.self.inside.counts c.insert_full.new.self c.self.inside.numbers c.insert.new.self c.args.place c.in-Ok.number (c.count-count.result + 1) c.args.value c.in-Ok.ensures.entries
-        c.in-Ok.ensures.index c.in-Ok-insert.ensures.updates c.self.invariant.known
-        ∙ ap (λ (k : Children). fin.insert k.values c.args.place c.args.value) c.self.view_is in
+    values_added c.self.inside.counts c.insert_full.new.self c.self.inside.numbers c.insert.new.self c.args.place c.in-Ok.number (c.count-count.result + 1) c.args.value c.in-Ok.ensures.entries
+    c.in-Ok.ensures.index c.in-Ok-insert.ensures.updates c.self.invariant.known
+    ∙ ap (λ (k : Children). fin.insert k.values c.args.place c.args.value) c.self.view_is in
     λ i. record { values = values i; spare = (c.self.view_is i).spare - 1 }

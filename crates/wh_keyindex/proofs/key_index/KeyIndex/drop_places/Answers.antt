@@ -12,6 +12,6 @@ returns c =
     let gone = c.args.gone.now in
     let kept = filter-RetainsPairs _ (λ e. not (is_marked gone e.1)) _ (λ k v b w g call. search rules) _ _ c.retain.ensures.filtered in
     let places =
-        ap (map.from_entries {R = value_cmp}) kept ∙ marked_dropped _ gone c.self.invariant.once
-        ∙ ap (λ (k : Keyed). unmarked gone k.places) c.self.view_is in
+    ap (map.from_entries {R = value_cmp}) kept ∙ marked_dropped _ gone c.self.invariant.once
+    ∙ ap (λ (k : Keyed). unmarked gone k.places) c.self.view_is in
     λ i. record { places = places i; spare = (c.self.view_is i).spare }
