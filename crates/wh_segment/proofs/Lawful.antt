@@ -1,5 +1,5 @@
 -- The laws of a segment.
-use Rattle.std.proofs.Common.{◌≡◌, ◌∙◌, sym, ap, subst, refl, Bool, true, false, cond, List, [], ◌∷◌, ◌++◌, ◌<◌, ◌≤◌, Some, None, Option, ℕ, zero, suc, map, nat_le, nat_lt, slice_get, slice_set, is_some, unwrap_or, ◌&&◌, arith}
+use Rattle.std.proofs.Common.{◌≡◌, ◌∙◌, sym, ap, refl, Bool, true, false, cond, List, [], ◌∷◌, ◌++◌, ◌<◌, ◌≤◌, Some, None, Option, ℕ, zero, suc, map, nat_le, nat_lt, slice_get, slice_set, is_some, unwrap_or, ◌&&◌, arith}
 use Rattle.std.proofs.lemmas.Bool.{leb-true, leb-false, le-leb, lt-leb}
 use Rattle.wh_base.specs.Lists.{option_case, where_true}
 use Rattle.wh_base.specs.declared.tables.RowAt.{RowAt}

@@ -1,6 +1,6 @@
 -- Versions removed one by one, from the first on.
-use Rattle.std.proofs.Common.{◌≡◌, ◌∙◌, sym, ap, subst, refl, Bool, true, false, cond, List, [], ◌∷◌, ◌+◌, ◌<◌, ◌≤◌, Some, None, Option, ℕ, zero, suc, length, filter, slice_get, slice_set, arith}
-use Rattle.wh_base.specs.Lists.{option_case, where_true}
+use Rattle.std.proofs.Common.{◌≡◌, ◌∙◌, sym, ap, refl, Bool, true, false, cond, List, [], ◌∷◌, ◌+◌, ◌<◌, ◌≤◌, Some, None, ℕ, zero, suc, length, filter, slice_set, arith}
+use Rattle.wh_base.specs.Lists.{where_true}
 use Rattle.wh_segment.specs.Versions.{is_past, purged, removed, removed_at}
 use Rattle.wh_segment.specs.declared.version.Version.{Version}
 

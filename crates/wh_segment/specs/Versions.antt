@@ -1,5 +1,5 @@
 -- The versions of rows by their places, and what each call makes of them.
-use Rattle.std.specs.Prelude.{Bool, List, None, Option, Some, cond, false, is_none, is_some, length, filter, map, nat_le, nat_lt, slice_get, slice_set, true, ℕ, ◌&&◌}
+use Rattle.std.specs.Prelude.{Bool, List, None, Option, Some, false, is_none, is_some, map, nat_le, nat_lt, slice_get, slice_set, true, ℕ, ◌&&◌}
 use Rattle.wh_base.specs.Lists.{change_where, option_case, where_true}
 use Rattle.wh_base.specs.Tables.{Places}
 use Rattle.wh_base.specs.declared.tables.RowAt.{RowAt}

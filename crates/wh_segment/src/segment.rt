@@ -144,10 +144,12 @@ impl<L> Segment<L> {
     {
         reads.raise();
         match self.versions.get(place as usize) {
-            Some(Version {
-                values: Some(values),
-                ..
-            }) => values.get(),
+            Some(
+                Version {
+                    values: Some(values),
+                    ..
+                },
+            ) => values.get(),
             _ => unreachable!(),
         }
     }
@@ -181,11 +183,7 @@ impl<L> Segment<L> {
 
 /// Removes the versions that died at an SCN or before it, and gives how many. An error says that memory ran out.
 #[tactic(auto, using(crate::proofs::Removing::removing))]
-fn remove_past(
-    versions: &mut ChunkList<Version>,
-    alloc: Global,
-    to: u64,
-) -> Result<u64, AllocError>
+fn remove_past(versions: &mut ChunkList<Version>, alloc: Global, to: u64) -> Result<u64, AllocError>
     ensures count { IfOk result (λ count. count ≡ length (filter (is_past to) versions.old)) }
     ensures ok { OnOk result (versions.new ≡ purged to versions.old) }
 {

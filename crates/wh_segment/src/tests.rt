@@ -30,15 +30,31 @@ fn versions_come_and_go(rt: HostRuntime) -> Result<(), Fail> {
     assert_eq!(rt; segment.append(8, 2, row(alloc, 20)?, 5)?, 1);
     let copy = segment.copy()?;
     segment.end(0, 6)?;
-    for (scn, there) in [(2, [false, false, false]), (3, [true, false, false]), (5, [true, true, false]), (6, [false, true, false])] {
+    for (scn, there) in [
+        (2, [false, false, false]),
+        (3, [true, false, false]),
+        (5, [true, true, false]),
+        (6, [false, true, false]),
+    ] {
         assert_eq!(rt; seen(&segment, scn), there, "at {scn}");
     }
     assert_eq!(rt; segment.purge(5)?, 0, "none ended so early");
     assert_eq!(rt; segment.purge(6)?, 1);
     assert_eq!(rt; seen(&segment, 5), [false, true, false], "removed");
-    assert_eq!(rt; seen(&copy, 6), [true, true, false], "the copy is as it was");
-    assert_eq!(rt; (segment.rowid(0), segment.part(0)), (7, 1), "a removed one keeps them");
-    assert_eq!(rt; segment.row(1, &mut reads).as_slice(), [Value::Num(20)].as_slice());
+    assert_eq!(rt;
+        seen(&copy, 6),
+        [true, true, false],
+        "the copy is as it was"
+    );
+    assert_eq!(rt;
+        (segment.rowid(0), segment.part(0)),
+        (7, 1),
+        "a removed one keeps them"
+    );
+    assert_eq!(rt;
+        segment.row(1, &mut reads).as_slice(),
+        [Value::Num(20)].as_slice()
+    );
     assert_eq!(rt; reads.count(), 1);
     Ok(())
 }

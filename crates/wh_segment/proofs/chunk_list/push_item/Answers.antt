@@ -1,4 +1,4 @@
-use Rattle.std.proofs.Common.{arith, ap, ◌∙◌, sym, List, length, ◌≡◌, true, false}
+use Rattle.std.proofs.Common.{arith, ap, ◌∙◌, sym, length, ◌≡◌}
 use Rattle.wh_segment.specs.Chunks.{last_has_room}
 use Rattle.wh_segment.proofs.Joined.{last_chunks, last_list, new_chunks, new_list}
 use Rattle.wh_segment.proofs.chunk_list.push_item.Goals as goal
