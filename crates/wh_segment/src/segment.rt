@@ -13,8 +13,7 @@ use wh_base::values::Value;
 
 /// The versions of the rows of a table, each at its place for good. Contracts see it as the list of the versions by place.
 /// The values of a version are had only through a counter, which each reading raises by one. There are fewer than 2^32
-/// places. To keep versions by SCN is how the Data Warehousing Guide's read consistency is kept here; that they stand in
-/// chunks of 1,024, which copies share, is this project's own.
+/// places. That rows are kept as versions by SCN, in chunks of 1,024 that copies share, is this project's own.
 #[derive(Drop)]
 pub struct Segment<L> {
     alloc: Global,
@@ -127,7 +126,8 @@ impl<L> Segment<L> {
         self.version(place).rowid
     }
 
-    /// The number of the partition of the version at a place, 0 without partitions, also of a removed one. Raises no counter.
+    /// The number of the partition of the version at a place, 0 without partitions, also of a removed one. Raises no
+    /// counter.
     pub fn part(&self, place: u64) -> u64
         requires { place < length self.now }
         ensures { IfSome (slice_get self.now place) (λ v. result ≡ v.part) }
