@@ -1,0 +1,5 @@
+mod Decimal
+mod Fronts
+mod Marks
+mod Laid
+mod Spelled

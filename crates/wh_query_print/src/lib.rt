@@ -1,0 +1,8 @@
+//! The canonical text of a query.
+#![tactic(auto)]
+
+pub mod clauses;
+pub mod layout;
+pub mod parts;
+pub mod pieces;
+pub mod query;
