@@ -3,3 +3,5 @@ mod Fronts
 mod Marks
 mod Laid
 mod Spelled
+mod Sound
+mod Rules

@@ -1,5 +1,6 @@
 -- Rules of the grammar read the same wherever the tokens stand, and give only what can be written.
-use Rattle.std.proofs.Common.{◌≡◌, ℕ, ◌+◌, ◌<◌, ◌^◌, suc, zero, List, [], ◌∷◌, ◌++◌, length, refl, ap, sym, ◌∙◌, arith, true, false, Bool, ◌&&◌, cond, map, subst, Option, Some, None, length-map}
+use Rattle.std.proofs.Common.{◌≡◌, ℕ, ◌+◌, ◌<◌, ◌^◌, suc, zero, List, [], ◌∷◌, ◌++◌, length, refl, ap, sym, ◌∙◌, arith, true, false, Bool, ◌&&◌, cond, map, subst, Option, Some, None}
+use Rattle.std.proofs.lemmas.List.{length-map}
 use Rattle.std.specs.Prelude.{codes, option_map, unwrap_or}
 use Rattle.wh_base.specs.Lists.{option_case, where_true}
 use Rattle.wh_lex.specs.declared.token.Token.{Token}
@@ -145,7 +146,7 @@ times-alike P zero r h ts all = (refl, tt, refl, all)
 times-alike P (suc n) r h ts all = again-alike P n r ts all (λ us each. times-alike P n r h us each) (r ts) (r (map unplaced ts)) (h.alike ts all)
 
 pub many-sound : {A : Type 0} (P : A → Type 0) (r : Rule A) → Sound P r → Sound (Each P) (many r)
-many-sound P r h = record { alike = λ ts all. rw (length-map unplaced ts) (times-alike P (length ts) r h ts all) }
+many-sound P r h = record { alike = λ ts all. rw (length-map ts unplaced) (times-alike P (length ts) r h ts all) }
 
 -- ---- tokens
 

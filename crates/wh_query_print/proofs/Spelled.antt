@@ -1,6 +1,7 @@
 -- Each token of a text has a text that a token may have.
-use Rattle.std.proofs.Common.{◌≡◌, ℕ, ◌+◌, ◌<◌, suc, zero, List, [], ◌∷◌, ◌++◌, length, get_or, refl, ap, sym, ◌∙◌, arith, true, false, Bool, ◌&&◌, ◌||◌, cond, map, take, subst, Result, Ok, Err, Option, Some, None, ◌⊎◌, inl, inr, length-map}
+use Rattle.std.proofs.Common.{◌≡◌, ℕ, ◌+◌, ◌<◌, suc, zero, List, [], ◌∷◌, ◌++◌, length, get_or, refl, ap, sym, ◌∙◌, arith, true, false, Bool, ◌&&◌, ◌||◌, cond, map, take, subst, Result, Ok, Err, Option, Some, None, ◌⊎◌, inl, inr}
 use Rattle.std.proofs.lemmas.Bool.Decides.{nat_tests}
+use Rattle.std.proofs.lemmas.List.{length-map}
 use Rattle.std.proofs.lemmas.List.Sums.{take_while-cons}
 use Rattle.std.specs.Char.{is_ascii_alphabetic, is_ascii_digit, to_ascii_uppercase}
 use Rattle.std.specs.List.{list_all, list_any}
@@ -67,7 +68,7 @@ spelled-name b bs letter = at (nat_lt (length (take_while is_name_byte bs)) 30) 
         let whole : take (length (take_while is_name_byte bs) + 1) (b ∷ bs) ≡ b ∷ take_while is_name_byte bs = rw (one-more (length (take_while is_name_byte bs))) (ap (λ xs. b ∷ xs) (take-run is_name_byte bs)) in
         let first : is_folded (to_ascii_uppercase b) ≡ true = upper-folded b (letter-byte b letter) in
         let others : list_all is_folded (map to_ascii_uppercase (take_while is_name_byte bs)) ≡ true = run-all is_name_byte is_folded to_ascii_uppercase bs upper-folded in
-        rw (whole, upper-letter b letter, first, others, length-map to_ascii_uppercase (take_while is_name_byte bs)) e
+        rw (whole, first, upper-letter b letter, others, length-map (take_while is_name_byte bs) to_ascii_uppercase) e
     at false e = tt
 
 spelled-number : (b : ℕ) (bs : List ℕ) → is_ascii_digit b ≡ true → IsSpelled (number_part (b ∷ bs))
