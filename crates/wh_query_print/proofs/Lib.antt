@@ -5,3 +5,5 @@ mod Laid
 mod Spelled
 mod Sound
 mod Rules
+mod Begun
+mod ReadBack
