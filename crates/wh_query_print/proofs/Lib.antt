@@ -7,3 +7,6 @@ mod Sound
 mod Rules
 mod Begun
 mod ReadBack
+mod ReadQuery
+mod PlainTokens
+mod Back

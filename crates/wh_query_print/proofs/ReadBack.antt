@@ -175,7 +175,7 @@ part-head (Some m) (Plain n) k h ts = head-name m k (bare kinds.Mark (codes ".")
 part-head None RowIdName k h ts = record { first = codes "ROWID"; others = ts; is = refl; count = refl; sum = refl; avg = refl; min = refl; max = refl }
 part-head (Some m) RowIdName k h ts = head-name m k (bare kinds.Mark (codes ".") ∷ bare kinds.Name (codes "ROWID") ∷ ts)
 
-column-head : (c : ColName) → IsColumn c → (ts : List Token) → Head (column_tokens c ++ ts)
+pub column-head : (c : ColName) → IsColumn c → (ts : List Token) → Head (column_tokens c ++ ts)
 column-head c h ts = part-head c.qualifier c.part h.0 h.1 ts
 
 no-literal : (ts : List Token) → Head ts → literal ts ≡ None
@@ -187,7 +187,7 @@ no-signed ts h = rw h.is refl
 no-number : (ts : List Token) → Head ts → number ts ≡ None
 no-number ts h = rw h.is refl
 
-no-mark : (m : List ℕ) (ts : List Token) → Head ts → mark m ts ≡ None
+pub no-mark : (m : List ℕ) (ts : List Token) → Head ts → mark m ts ≡ None
 no-mark m ts h = rw h.is refl
 
 call-none : (w k : List ℕ) (make : RawExpr → RawAgg) (ts : List Token) → same_text w k ≡ false → aggregate_of k make (bare kinds.Name w ∷ ts) ≡ None

@@ -2,6 +2,7 @@
 #![tactic(auto)]
 
 pub mod clauses;
+pub mod laws;
 pub mod layout;
 pub mod parts;
 pub mod pieces;

@@ -1,5 +1,6 @@
 ghost use Rattle.def_grammar.specs.Canonical.{group_tokens, having_tokens, order_by_tokens, query_text, query_tokens, where_tokens};
 ghost use Rattle.std.specs.Prelude.{◌≡◌, ◌++◌, IfOk, OnOk};
+ghost use Rattle.def_grammar.specs.Written.{IsWritten, ReadsAs};
 ghost use Rattle.wh_query_print.specs.Spoken.{head_tokens, tail_tokens};
 
 use crate::clauses::{push_as_of, push_listed, push_tables};
@@ -89,9 +90,23 @@ impl Spoken for RawQuery {
     }
 }
 
-/// The canonical text of a query: one line in upper case, in the form that SQL is usually written in.
-#[tactic(auto, unfolding(def_grammar::specs::Canonical::query_text))]
+/// The canonical text of a query: as SQL is usually written, on one line and in upper case, with one space or none
+/// between two tokens, each alias of an item behind AS, a comparison as `=`, `<>`, `<`, `<=`, `>` or `>=`, and what may
+/// be left out left out (INNER, ASC, brackets after ON). Quotes within a text are doubled. The form is this project's own.
+///
+/// The text of a query that can be written reads as that query, and no other query has it.
+///
+/// An error says that memory ran out or that the text has 2^32 bytes or more.
+#[tactic(auto, using(crate::proofs::Back::laws))]
 pub fn query_text(alloc: Global, query: &RawQuery) -> Result<Txt, AllocError>
+    ensures is { IfOk result (λ text. text ≡ query_text query.now) }
+    ensures reads_back { IfOk result (λ text. IsWritten query.now → ReadsAs text query.now) }
+{
+    written(alloc, query)
+}
+
+#[tactic(auto, unfolding(def_grammar::specs::Canonical::query_text))]
+fn written(alloc: Global, query: &RawQuery) -> Result<Txt, AllocError>
     ensures { IfOk result (λ text. text ≡ query_text query.now) }
 {
     let mut pieces = Pieces::new(alloc);
