@@ -64,6 +64,10 @@ is_spelling tokens.Number text = is_numeral text
 is_spelling tokens.Text text = is_line text
 is_spelling tokens.Mark text = has_text marks text
 
+-- a token that a text may have
+abbrev pub IsSpelled : Token → Type 0
+IsSpelled t = is_spelling t.kind t.text ≡ true
+
 -- ---- the parts of a query
 
 -- P holds of each item

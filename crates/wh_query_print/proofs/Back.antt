@@ -9,15 +9,15 @@ use Rattle.def_grammar.specs.Canonical.{laid, query_text, query_tokens}
 use Rattle.def_grammar.specs.Forms.{text_tokens, tokens_or_none}
 use Rattle.def_grammar.specs.Query.{select}
 use Rattle.def_grammar.specs.Reading.{whole}
-use Rattle.def_grammar.specs.Written.{Each, IsWritten, ReadsAs}
-use Rattle.wh_query_print.proofs.Laid.{AreTokens, IsToken, laid-tokens, unplaced}
+use Rattle.def_grammar.specs.Written.{Each, IsSpelled, IsWritten, ReadsAs}
+use Rattle.wh_query_print.proofs.Laid.{AreTokens, laid-tokens, unplaced}
 use Rattle.wh_query_print.proofs.PlainTokens.{IsPlain, query-plain}
 use Rattle.wh_query_print.proofs.ReadQuery.{query-read}
 use Rattle.wh_query_print.proofs.Rules.{select-sound}
 use Rattle.wh_query_print.proofs.Sound.{Alike}
 use Rattle.wh_query_print.proofs.Spelled.{tokens-spelled}
 
-plain-tokens : (ts : List Token) → Each IsPlain ts → Each IsToken ts
+plain-tokens : (ts : List Token) → Each IsPlain ts → Each IsSpelled ts
 plain-tokens [] h = tt
 plain-tokens (t ∷ ts) h = (h.0.0, plain-tokens ts h.1)
 
@@ -52,8 +52,11 @@ written-of : (q : RawQuery) (rest : List Token) (o u : Option (RawQuery × List 
 written-of q rest o None e h = let P : Option (RawQuery × List Token) → Type 0 = λ x. Alike IsWritten x None in absurd (subst P e h)
 written-of q rest o (Some p) e h = let P : Option (RawQuery × List Token) → Type 0 = λ x. Alike IsWritten x (Some p) in (subst P e h).1
 
-pub gives-written : (text : List ℕ) (ts rest : List Token) (q : RawQuery) → tokens_of text ≡ Ok ts → select ts ≡ Some (q, rest) → IsWritten q
-gives-written text ts rest q e read = written-of q rest (select ts) (select (map unplaced ts)) read (select-sound.alike ts (tokens-spelled text ts e))
+pub spelled-written : (ts rest : List Token) (q : RawQuery) → Each IsSpelled ts → select ts ≡ Some (q, rest) → IsWritten q
+spelled-written ts rest q all read = written-of q rest (select ts) (select (map unplaced ts)) read (select-sound.alike ts all)
+
+pub text-written : (text : List ℕ) (ts rest : List Token) (q : RawQuery) → tokens_of text ≡ Ok ts → select ts ≡ Some (q, rest) → IsWritten q
+text-written text ts rest q e read = spelled-written ts rest q (tokens-spelled text ts e) read
 
 -- a text is the canonical text of one query at most
 pub one-query : (q r : RawQuery) → IsWritten q → IsWritten r → query_text q ≡ query_text r → q ≡ r
@@ -64,4 +67,4 @@ one-query q r h k same =
     some-same : (q r : RawQuery) → Some q ≡ Some r → q ≡ r
     some-same q r e = cc
 
-pub ruleset laws = (reads-back, gives-written, one-query)
+pub ruleset laws = (reads-back)

@@ -152,7 +152,7 @@ parted-read {A} P Ok f r part between (x ∷ xs) rest parts all one ok end =
     let behind : Ok (flat_map g xs ++ rest) = ok-more P Ok g xs rest all.1 (λ y ts p. parts.follows (f y ++ ts)) ok in
     let first : r (f x ++ (flat_map g xs ++ rest)) ≡ Some (x, flat_map g xs ++ rest) = one x all.0 (flat_map g xs ++ rest) behind in
     let others : many (part >> r) (flat_map g xs ++ rest) ≡ Some (xs, rest) =
-        many-read P Ok g (part >> r) xs rest all.1 (λ y p ts k. rw (parts.reads (f y ++ ts)) (one y p ts k)) (λ y ts p. parts.follows (f y ++ ts)) (λ y p. omega arith) ok (part-end part r rest end) in
+    many-read P Ok g (part >> r) xs rest all.1 (λ y p ts k. rw (parts.reads (f y ++ ts)) (one y p ts k)) (λ y ts p. parts.follows (f y ++ ts)) (λ y p. omega arith) ok (part-end part r rest end) in
     rw (append_assoc (f x) (flat_map g xs) rest, first, others) refl
 
 -- a list that may be left out

@@ -85,7 +85,7 @@ unfolding front_of
 front-number b bs rest h ends =
     let all : list_all is_ascii_digit (b ∷ bs) ≡ true = and_first (list_all is_ascii_digit (b ∷ bs)) (nat_lt (length bs) 38) h in
     rw (start-number b (get_or (b ∷ (bs ++ rest)) 1 0) (and_first (is_ascii_digit b) (list_all is_ascii_digit bs) all))
-        (part-number b bs rest (and_later (is_ascii_digit b) (list_all is_ascii_digit bs) all) (and_later (list_all is_ascii_digit (b ∷ bs)) (nat_lt (length bs) 38) h) ends)
+    (part-number b bs rest (and_later (is_ascii_digit b) (list_all is_ascii_digit bs) all) (and_later (list_all is_ascii_digit (b ∷ bs)) (nat_lt (length bs) 38) h) ends)
 
 plain : (b : ℕ) (bs : List ℕ) → (b == 10) ≡ false → (b == 39) ≡ false → text_of (b ∷ bs) ≡ text_more b 1 (text_of bs)
 plain b [] n q = rw q refl

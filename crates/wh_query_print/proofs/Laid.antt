@@ -16,17 +16,13 @@ use Rattle.wh_lex.specs.declared.token.TokenKind.{TokenKind}
 use Rattle.wh_lex.specs.declared.token.TokenKind.TheVariants as kinds
 use Rattle.def_grammar.specs.Canonical.{bare, gap, is_call, is_closing, is_joined, is_negative, is_opening, laid, laid_behind, quoted_text, written_token}
 use Rattle.def_grammar.specs.Reading.{doubled, is_token, same_token_kind}
-use Rattle.def_grammar.specs.Written.{Each, is_identifier, is_line, is_numeral, is_spelling, marks}
+use Rattle.def_grammar.specs.Written.{Each, IsSpelled, is_identifier, is_line, is_numeral, is_spelling, marks}
 use Rattle.wh_query_print.proofs.Fronts.{and_first, and_later, begins, front-name, front-number, quoted-text}
 use Rattle.wh_query_print.proofs.Marks.{front-mark, goes_on, open_marks, same-text}
 
 -- the token without its place
 abbrev pub unplaced : Token → Token
 unplaced t = bare t.kind t.text
-
--- a token that a text may have
-abbrev pub IsToken : Token → Type 0
-IsToken t = is_spelling t.kind t.text ≡ true
 
 -- the bytes that would go on a token, if they stood behind it
 abbrev goes : TokenKind → List ℕ → ℕ → Bool
@@ -152,32 +148,35 @@ joined-opening t bytes h =
 
 joined-closing : (t u : Token) (more : List ℕ) → is_closing u ≡ true → begins (goes t.kind t.text) (written_token u ++ more) ≡ false
 joined-closing t u more h =
-    elim (or-cases (is_token kinds.Mark (codes ",") u || is_token kinds.Mark (codes ".") u) (is_token kinds.Mark (codes ")") u) h)
-    [ inl e ↦ elim (or-cases (is_token kinds.Mark (codes ",") u) (is_token kinds.Mark (codes ".") u) e)
-        [ inl f ↦ before-mark t u 44 more (stops-mark 44 refl refl refl refl) f | inr f ↦ before-mark t u 46 more (stops-mark 46 refl refl refl refl) f ]
-    | inr e ↦ before-mark t u 41 more (stops-mark 41 refl refl refl refl) e ]
+    elim (or-cases (is_token kinds.Mark (codes ",") u || is_token kinds.Mark (codes ".") u) (is_token kinds.Mark (codes ")") u) h) [
+      | inl e ↦ elim (or-cases (is_token kinds.Mark (codes ",") u) (is_token kinds.Mark (codes ".") u) e)
+          [ inl f ↦ before-mark t u 44 more (stops-mark 44 refl refl refl refl) f | inr f ↦ before-mark t u 46 more (stops-mark 46 refl refl refl refl) f ]
+      | inr e ↦ before-mark t u 41 more (stops-mark 41 refl refl refl refl) e
+    ]
 
 joined-call : (t u : Token) (more : List ℕ) → is_call t u ≡ true → begins (goes t.kind t.text) (written_token u ++ more) ≡ false
 joined-call t u more h =
     let opens : is_token kinds.Mark (codes "(") u && same_token_kind t.kind kinds.Name ≡ true = and_first (is_token kinds.Mark (codes "(") u && same_token_kind t.kind kinds.Name) (not (is_token kinds.Name (codes "IN") t)) h in
     before-mark t u 40 more (stops-mark 40 refl refl refl refl) (and_first (is_token kinds.Mark (codes "(") u) (same_token_kind t.kind kinds.Name) opens)
 
-joined-negative : (t u : Token) (more : List ℕ) → IsToken u → is_negative t u ≡ true → begins (goes t.kind t.text) (written_token u ++ more) ≡ false
+joined-negative : (t u : Token) (more : List ℕ) → IsSpelled u → is_negative t u ≡ true → begins (goes t.kind t.text) (written_token u ++ more) ≡ false
 joined-negative t u more spelled h =
     number-behind t u.kind u.text more spelled (kind-is u.kind kinds.Number (and_later (is_token kinds.Mark (codes "-") t) (same_token_kind u.kind kinds.Number) h)) (and_first (is_token kinds.Mark (codes "-") t) (same_token_kind u.kind kinds.Number) h)
 
-joined : (t u : Token) (more : List ℕ) → IsToken u → is_joined t u ≡ true → begins (goes t.kind t.text) (written_token u ++ more) ≡ false
+joined : (t u : Token) (more : List ℕ) → IsSpelled u → is_joined t u ≡ true → begins (goes t.kind t.text) (written_token u ++ more) ≡ false
 joined t u more spelled h =
-    elim (or-cases (is_opening t || is_closing u || is_call t u) (is_negative t u) h)
-    [ inl e ↦ elim (or-cases (is_opening t || is_closing u) (is_call t u) e)
-        [ inl f ↦ elim (or-cases (is_opening t) (is_closing u) f) [ inl g ↦ joined-opening t (written_token u ++ more) g | inr g ↦ joined-closing t u more g ]
-        | inr f ↦ joined-call t u more f ]
-    | inr e ↦ joined-negative t u more spelled e ]
+    elim (or-cases (is_opening t || is_closing u || is_call t u) (is_negative t u) h) [
+      | inl e ↦ elim (or-cases (is_opening t || is_closing u) (is_call t u) e) [
+        | inl f ↦ elim (or-cases (is_opening t) (is_closing u) f) [ inl g ↦ joined-opening t (written_token u ++ more) g | inr g ↦ joined-closing t u more g ]
+        | inr f ↦ joined-call t u more f
+      ]
+      | inr e ↦ joined-negative t u more spelled e
+    ]
 
 stops-space : (kind : TokenKind) (text more : List ℕ) → begins (goes kind text) (32 ∷ more) ≡ false
 stops-space kind text more = stops-mark 32 refl refl refl refl kind text
 
-clear : (t u : Token) (more : List ℕ) (b : Bool) → is_joined t u ≡ b → IsToken u → begins (goes t.kind t.text) (cond b [] (32 ∷ []) ++ (written_token u ++ more)) ≡ false
+clear : (t u : Token) (more : List ℕ) (b : Bool) → is_joined t u ≡ b → IsSpelled u → begins (goes t.kind t.text) (cond b [] (32 ∷ []) ++ (written_token u ++ more)) ≡ false
 clear t u more true e spelled = joined t u more spelled e
 clear t u more false e spelled = stops-space t.kind t.text (written_token u ++ more)
 
@@ -191,14 +190,14 @@ past-gap false rest us more p =
     let read : tokens_from 0 p (32 ∷ rest) ≡ tokens_from 0 (suc p) rest = ap (λ x. after x p (λ m. tokens_from m (suc p) rest)) (blank rest) in
     subst (λ r. AreTokens r us) (sym read) (more (suc p))
 
-lex-behind : (t : Token) (us : List Token) (place : ℕ) → IsToken t → Each IsToken us → AreTokens (tokens_from 0 place (written_token t ++ laid_behind t us)) (t ∷ us)
+lex-behind : (t : Token) (us : List Token) (place : ℕ) → IsSpelled t → Each IsSpelled us → AreTokens (tokens_from 0 place (written_token t ++ laid_behind t us)) (t ∷ us)
 lex-behind t [] place spelled all = lex-one t [] [] place (starts t.kind t.text spelled) refl (λ p. refl)
 lex-behind t (u ∷ us) place spelled all =
     lex-one t (u ∷ us) (laid_behind t (u ∷ us)) place (starts t.kind t.text spelled) (clear t u (laid_behind u us) (is_joined t u) refl all.0)
-        (past-gap (is_joined t u) (written_token u ++ laid_behind u us) (u ∷ us) (λ p. lex-behind u us p all.0 all.1))
+    (past-gap (is_joined t u) (written_token u ++ laid_behind u us) (u ∷ us) (λ p. lex-behind u us p all.0 all.1))
 
 -- the tokens of a text that was made of tokens are those
-pub laid-tokens : (ts : List Token) → Each IsToken ts → AreTokens (tokens_of (laid ts)) ts
+pub laid-tokens : (ts : List Token) → Each IsSpelled ts → AreTokens (tokens_of (laid ts)) ts
 unfolding tokens_of
 laid-tokens [] all = refl
 laid-tokens (t ∷ ts) all = lex-behind t ts 0 all.0 all.1

@@ -111,24 +111,55 @@ unfolding front_of
 front-not rest = refl
 
 each-mark : Each IsRead marks
-each-mark =
-    ((λ rest ends more e. one 40 rest more e (front-open rest)),
-    ((λ rest ends more e. one 41 rest more e (front-close rest)),
-    ((λ rest ends more e. one 44 rest more e (front-comma rest)),
-    ((λ rest ends more e. one 46 rest more e (front-dot rest)),
-    ((λ rest ends more e. one 59 rest more e (front-semicolon rest)),
-    ((λ rest ends more e. one 42 rest more e (front-star rest)),
-    ((λ rest ends more e. one 61 rest more e (front-equals rest)),
-    ((λ rest ends more e. one 43 rest more e (front-plus rest)),
-    ((λ rest ends more e. one 45 rest more e (front-minus rest (ends refl))),
-    ((λ rest ends more e. one 63 rest more e (front-asked rest)),
-    ((λ rest ends more e. one 60 rest more e (front-less rest (ends refl))),
-    ((λ rest ends more e. two 60 62 rest more e (front-unequal rest)),
-    ((λ rest ends more e. two 60 61 rest more e (front-at_most rest)),
-    ((λ rest ends more e. one 62 rest more e (front-greater rest (ends refl))),
-    ((λ rest ends more e. two 62 61 rest more e (front-at_least rest)),
-    ((λ rest ends more e. two 33 61 rest more e (front-not rest)),
-    tt))))))))))))))))
+each-mark = (
+  (λ rest ends more e. one 40 rest more e (front-open rest)),
+  (
+    (λ rest ends more e. one 41 rest more e (front-close rest)),
+    (
+      (λ rest ends more e. one 44 rest more e (front-comma rest)),
+      (
+        (λ rest ends more e. one 46 rest more e (front-dot rest)),
+        (
+          (λ rest ends more e. one 59 rest more e (front-semicolon rest)),
+          (
+            (λ rest ends more e. one 42 rest more e (front-star rest)),
+            (
+              (λ rest ends more e. one 61 rest more e (front-equals rest)),
+              (
+                (λ rest ends more e. one 43 rest more e (front-plus rest)),
+                (
+                  (λ rest ends more e. one 45 rest more e (front-minus rest (ends refl))),
+                  (
+                    (λ rest ends more e. one 63 rest more e (front-asked rest)),
+                    (
+                      (λ rest ends more e. one 60 rest more e (front-less rest (ends refl))),
+                      (
+                        (λ rest ends more e. two 60 62 rest more e (front-unequal rest)),
+                        (
+                          (λ rest ends more e. two 60 61 rest more e (front-at_most rest)),
+                          (
+                            (λ rest ends more e. one 62 rest more e (front-greater rest (ends refl))),
+                            (
+                              (λ rest ends more e. two 62 61 rest more e (front-at_least rest)),
+                              (
+                                (λ rest ends more e. two 33 61 rest more e (front-not rest)),
+                                tt,
+                              ),
+                            ),
+                          ),
+                        ),
+                      ),
+                    ),
+                  ),
+                ),
+              ),
+            ),
+          ),
+        ),
+      ),
+    ),
+  ),
+)
 
 pub front-mark : (text : List ℕ) → has_text marks text ≡ true → IsRead text
 front-mark text h = among marks text IsRead each-mark h

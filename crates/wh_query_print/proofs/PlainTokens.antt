@@ -27,13 +27,13 @@ use Rattle.wh_base.specs.declared.values.Op.TheVariants.{Eq, Ge, Gt, Le, Lt, Ne}
 use Rattle.wh_lex.specs.declared.token.Token.{Token}
 use Rattle.wh_lex.specs.declared.token.TokenKind.TheVariants as kinds
 use Rattle.def_grammar.specs.Canonical.{aggregate_tokens, alias_tokens, another_table_tokens, as_of_tokens, bare, call_tokens, clause_tokens, column_tokens, comma, condition_column, condition_tail_tokens, condition_tokens, direction_tokens, expression_tokens, from_tokens, item_tokens, joined_tokens, key_tokens, listed_tokens, literal_tokens, marked, named, op_text, order_tokens, part_tokens, qualifier_tokens, query_tokens, signed_tokens, table_alias_tokens, table_tokens, test_tokens, what_tokens}
-use Rattle.def_grammar.specs.Written.{AreTables, Each, EachOfSome, IfThere, IsAggregate, IsColumn, IsCondition, IsExpression, IsItem, IsJoin, IsKey, IsLiteral, IsName, IsNamePart, IsOrder, IsSigned, IsTable, IsTest, IsUnsigned, IsWhat, IsWritten, is_identifier}
+use Rattle.def_grammar.specs.Written.{AreTables, Each, EachOfSome, IfThere, IsAggregate, IsColumn, IsCondition, IsExpression, IsItem, IsJoin, IsKey, IsLiteral, IsName, IsNamePart, IsOrder, IsSigned, IsSpelled, IsTable, IsTest, IsUnsigned, IsWhat, IsWritten, is_identifier}
 use Rattle.wh_query_print.proofs.Decimal.{numeral-decimal}
-use Rattle.wh_query_print.proofs.Laid.{IsToken, unplaced}
+use Rattle.wh_query_print.proofs.Laid.{unplaced}
 
 -- a token of no place that a text may have
 abbrev pub IsPlain : Token → Type 0
-IsPlain t = IsToken t × (unplaced t ≡ t)
+IsPlain t = IsSpelled t × (unplaced t ≡ t)
 
 both : (ts us : List Token) → Each IsPlain ts → Each IsPlain us → Each IsPlain (ts ++ us)
 both [] us h k = k
@@ -172,11 +172,15 @@ as_of-plain (Some (negsuc n)) h = absurd h
 pub query-plain : (q : RawQuery) → IsWritten q → Each IsPlain (query_tokens q)
 query-plain q h =
     let comma_plain : IsPlain (bare kinds.Mark (codes ",")) = (refl, refl) in
-    let and_plain : IsPlain (bare kinds.Name (codes "AND")) = (refl, refl) in
-    ((refl, refl), both _ _ (listed IsItem (bare kinds.Mark (codes ",")) item_tokens q.items comma_plain (of-some IsItem q.items h.items) item-plain)
-    ((refl, refl), both _ _ (tables-plain q.tables h.tables)
-    (both _ _ (as_of-plain q.as_of h.as_of)
-    (both _ _ (clause IsCondition (named (codes "WHERE")) (bare kinds.Name (codes "AND")) condition_tokens q.conditions ((refl, refl), tt) and_plain h.conditions condition-plain)
-    (both _ _ (clause IsColumn (named (codes "GROUP") ++ named (codes "BY")) (bare kinds.Mark (codes ",")) column_tokens q.groups ((refl, refl), ((refl, refl), tt)) comma_plain h.groups column-plain)
-    (both _ _ (clause IsTest (named (codes "HAVING")) (bare kinds.Name (codes "AND")) test_tokens q.having ((refl, refl), tt) and_plain h.having test-plain)
-    (clause IsKey (named (codes "ORDER") ++ named (codes "BY")) (bare kinds.Mark (codes ",")) key_tokens q.order ((refl, refl), ((refl, refl), tt)) comma_plain h.order key-plain)))))))
+    let and_plain : IsPlain (bare kinds.Name (codes "AND")) = (refl, refl) in (
+      (refl, refl),
+      both _ _ (listed IsItem (bare kinds.Mark (codes ",")) item_tokens q.items comma_plain (of-some IsItem q.items h.items) item-plain) (
+        (refl, refl),
+        both _ _ (tables-plain q.tables h.tables)
+            (both _ _ (as_of-plain q.as_of h.as_of)
+            (both _ _ (clause IsCondition (named (codes "WHERE")) (bare kinds.Name (codes "AND")) condition_tokens q.conditions ((refl, refl), tt) and_plain h.conditions condition-plain)
+            (both _ _ (clause IsColumn (named (codes "GROUP") ++ named (codes "BY")) (bare kinds.Mark (codes ",")) column_tokens q.groups ((refl, refl), ((refl, refl), tt)) comma_plain h.groups column-plain)
+            (both _ _ (clause IsTest (named (codes "HAVING")) (bare kinds.Name (codes "AND")) test_tokens q.having ((refl, refl), tt) and_plain h.having test-plain)
+            (clause IsKey (named (codes "ORDER") ++ named (codes "BY")) (bare kinds.Mark (codes ",")) key_tokens q.order ((refl, refl), ((refl, refl), tt)) comma_plain h.order key-plain))))),
+      ),
+    )

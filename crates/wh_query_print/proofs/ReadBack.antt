@@ -55,7 +55,7 @@ signed-read : (z : ℤ) → IsSigned z → (ts : List Token) → signed (signed_
 signed-read (pos n) h ts = unsigned-read n h ts
 signed-read (negsuc n) h ts =
     or-first (mark (codes "-") >> mapped (λ n. neg_ℤ (pos n)) number) (mapped pos number) (negsuc n, ts) (signed_tokens (negsuc n) ++ ts)
-        (mapped-some (λ n. neg_ℤ (pos n)) number (suc n) (numbered (suc n) ++ ts) ts (number-read (suc n) h ts))
+    (mapped-some (λ n. neg_ℤ (pos n)) number (suc n) (numbered (suc n) ++ ts) ts (number-read (suc n) h ts))
 
 pub literal-read : (l : Literal) → IsLiteral l → (ts : List Token) → literal (literal_tokens l ++ ts) ≡ Some (l, ts)
 literal-read (Number z) h ts = rw (signed-read z h ts) refl
@@ -165,8 +165,16 @@ pub record Head (ts : List Token) : Type 0 where
 
 head-name : (n : List ℕ) → IsName n → (ts : List Token) → Head (bare kinds.Name n ∷ ts)
 head-name n h ts =
-    record { first = n; others = ts; is = refl; count = not-word (codes "COUNT") n h refl; sum = not-word (codes "SUM") n h refl; avg = not-word (codes "AVG") n h refl
-        ; min = not-word (codes "MIN") n h refl; max = not-word (codes "MAX") n h refl }
+    record {
+      first = n;
+      others = ts;
+      is = refl;
+      count = not-word (codes "COUNT") n h refl;
+      sum = not-word (codes "SUM") n h refl;
+      avg = not-word (codes "AVG") n h refl;
+      min = not-word (codes "MIN") n h refl;
+      max = not-word (codes "MAX") n h refl;
+    }
 
 part-head : (q : Option (List ℕ)) (p : NamePart) → IfThere IsName q → IsNamePart p → (ts : List Token) → Head (part_tokens p (qualifier_tokens q) ++ ts)
 part-head q MarkName k h ts = record { first = codes "DBMS_MVIEW"; others = _; is = refl; count = refl; sum = refl; avg = refl; min = refl; max = refl }
@@ -306,19 +314,19 @@ nulls c = mapped (λ _. raw.IsNull c) (word (codes "IS") >> word (codes "NULL"))
 compare-read : (c : ColName) (o : Op) (l : Literal) → IsLiteral l → (ts : List Token) → compares c (marked (op_text o) ++ (literal_tokens l ++ ts)) ≡ Some (raw.Compare c o l, ts)
 compare-read c o l h ts =
     bind-some operator (λ p. literal >>= (λ m. gives (raw.Compare c p m))) o (Some (raw.Compare c o l, ts)) (marked (op_text o) ++ (literal_tokens l ++ ts)) (literal_tokens l ++ ts) (operator-read o (literal_tokens l ++ ts))
-        (bind-some literal (λ m. gives (raw.Compare c o m)) l (Some (raw.Compare c o l, ts)) (literal_tokens l ++ ts) ts (literal-read l h ts) refl)
+    (bind-some literal (λ m. gives (raw.Compare c o m)) l (Some (raw.Compare c o l, ts)) (literal_tokens l ++ ts) ts (literal-read l h ts) refl)
 
 no-compare : (c d : ColName) → IsColumn d → (ts : List Token) → compares c (marked (codes "=") ++ (column_tokens d ++ ts)) ≡ None
 no-compare c d h ts =
     bind-some operator (λ p. literal >>= (λ m. gives (raw.Compare c p m))) Eq None (marked (codes "=") ++ (column_tokens d ++ ts)) (column_tokens d ++ ts) refl
-        (bind-none literal (λ m. gives (raw.Compare c Eq m)) (column_tokens d ++ ts) (no-literal (column_tokens d ++ ts) (column-head d h ts)))
+    (bind-none literal (λ m. gives (raw.Compare c Eq m)) (column_tokens d ++ ts) (no-literal (column_tokens d ++ ts) (column-head d h ts)))
 
 between-read : (c : ColName) (l m : Literal) → IsLiteral l → IsLiteral m → (ts : List Token)
     → between c (named (codes "BETWEEN") ++ (literal_tokens l ++ (named (codes "AND") ++ (literal_tokens m ++ ts)))) ≡ Some (raw.Between c l m, ts)
 between-read c l m h k ts =
     let high : List Token = literal_tokens m ++ ts in
     bind-some literal (λ x. word (codes "AND") >> (literal >>= (λ y. gives (raw.Between c x y)))) l (Some (raw.Between c l m, ts)) (literal_tokens l ++ (named (codes "AND") ++ high)) (named (codes "AND") ++ high) (literal-read l h (named (codes "AND") ++ high))
-        (bind-some literal (λ y. gives (raw.Between c l y)) m (Some (raw.Between c l m, ts)) high ts (literal-read m k ts) refl)
+    (bind-some literal (λ y. gives (raw.Between c l y)) m (Some (raw.Between c l m, ts)) high ts (literal-read m k ts) refl)
 
 equal-read : (c d : ColName) → IsColumn d → (ts : List Token) → AfterColumn ts → equal c (marked (codes "=") ++ (column_tokens d ++ ts)) ≡ Some (raw.Equal c d, ts)
 equal-read c d h ts after = bind-some column (λ x. gives (raw.Equal c x)) d (Some (raw.Equal c d, ts)) (column_tokens d ++ ts) ts (column-read d h ts after) refl
@@ -334,7 +342,7 @@ literals-read : (ls : List Literal) → EachOfSome IsLiteral ls → (ts : List T
 literals-read ls h ts =
     let close : List Token = marked (codes ")") ++ ts in
     bind-some (mark (codes "(") >> listed literal) (λ x. mark (codes ")") >> gives x) ls (Some (ls, ts)) (marked (codes "(") ++ (listed_tokens comma literal_tokens ls ++ close)) close
-        (parted-read IsLiteral Anything literal_tokens literal (mark (codes ",")) (bare kinds.Mark (codes ",")) ls close comma-parts h (λ l k us ok. literal-read l k us) tt refl) refl
+    (parted-read IsLiteral Anything literal_tokens literal (mark (codes ",")) (bare kinds.Mark (codes ",")) ls close comma-parts h (λ l k us ok. literal-read l k us) tt refl) refl
 
 tail-read : (c : RawCondition) → IsCondition c → (ts : List Token) → AfterColumn ts → condition_on (condition_column c) (condition_tail_tokens c ++ ts) ≡ Some (c, ts)
 tail-read (raw.Compare c o l) h ts after =
@@ -342,20 +350,20 @@ tail-read (raw.Compare c o l) h ts after =
 tail-read (raw.Between c l m) h ts after =
     let all : List Token = named (codes "BETWEEN") ++ (literal_tokens l ++ (named (codes "AND") ++ (literal_tokens m ++ ts))) in
     rw (append_assoc (literal_tokens l) (named (codes "AND") ++ literal_tokens m) ts)
-        (or-second (compares c) (between c or (equal c or (one_of c or nulls c))) (Some (raw.Between c l m, ts)) all refl
-            (or-first (between c) (equal c or (one_of c or nulls c)) (raw.Between c l m, ts) all (between-read c l m h.1 h.2 ts)))
+    (or-second (compares c) (between c or (equal c or (one_of c or nulls c))) (Some (raw.Between c l m, ts)) all refl
+    (or-first (between c) (equal c or (one_of c or nulls c)) (raw.Between c l m, ts) all (between-read c l m h.1 h.2 ts)))
 tail-read (raw.Equal c d) h ts after =
     let all : List Token = marked (codes "=") ++ (column_tokens d ++ ts) in
     or-second (compares c) (between c or (equal c or (one_of c or nulls c))) (Some (raw.Equal c d, ts)) all (no-compare c d h.1 ts)
-        (or-second (between c) (equal c or (one_of c or nulls c)) (Some (raw.Equal c d, ts)) all refl
-            (or-first (equal c) (one_of c or nulls c) (raw.Equal c d, ts) all (equal-read c d h.1 ts after)))
+    (or-second (between c) (equal c or (one_of c or nulls c)) (Some (raw.Equal c d, ts)) all refl
+    (or-first (equal c) (one_of c or nulls c) (raw.Equal c d, ts) all (equal-read c d h.1 ts after)))
 tail-read (raw.OneOf c ls) h ts after =
     let all : List Token = named (codes "IN") ++ (marked (codes "(") ++ (listed_tokens comma literal_tokens ls ++ (marked (codes ")") ++ ts))) in
     rw (append_assoc (listed_tokens comma literal_tokens ls) (marked (codes ")")) ts)
-        (or-second (compares c) (between c or (equal c or (one_of c or nulls c))) (Some (raw.OneOf c ls, ts)) all refl
-            (or-second (between c) (equal c or (one_of c or nulls c)) (Some (raw.OneOf c ls, ts)) all refl
-                (or-second (equal c) (one_of c or nulls c) (Some (raw.OneOf c ls, ts)) all refl
-                    (or-first (one_of c) (nulls c) (raw.OneOf c ls, ts) all (mapped-some (raw.OneOf c) (word (codes "IN") >> bracketed (listed literal)) ls all ts (literals-read ls h.1 ts))))))
+    (or-second (compares c) (between c or (equal c or (one_of c or nulls c))) (Some (raw.OneOf c ls, ts)) all refl
+    (or-second (between c) (equal c or (one_of c or nulls c)) (Some (raw.OneOf c ls, ts)) all refl
+    (or-second (equal c) (one_of c or nulls c) (Some (raw.OneOf c ls, ts)) all refl
+    (or-first (one_of c) (nulls c) (raw.OneOf c ls, ts) all (mapped-some (raw.OneOf c) (word (codes "IN") >> bracketed (listed literal)) ls all ts (literals-read ls h.1 ts))))))
 tail-read (raw.IsNull c) h ts after = refl
 tail-read (raw.NotNull c) h ts after = refl
 
@@ -384,7 +392,7 @@ pub condition-read : (c : RawCondition) → IsCondition c → (ts : List Token) 
 condition-read c h ts after =
     let tail : List Token = condition_tail_tokens c ++ ts in
     rw (append_assoc (column_tokens (condition_column c)) (condition_tail_tokens c) ts)
-        (bind-some column condition_on (condition_column c) (Some (c, ts)) (column_tokens (condition_column c) ++ tail) tail (column-read (condition_column c) (condition-names c h) tail (tail-after c ts)) (tail-read c h ts after))
+    (bind-some column condition_on (condition_column c) (Some (c, ts)) (column_tokens (condition_column c) ++ tail) tail (column-read (condition_column c) (condition-names c h) tail (tail-after c ts)) (tail-read c h ts after))
 
 -- ---- HAVING and ORDER BY
 
@@ -393,9 +401,9 @@ test-read t h ts =
     let value : List Token = literal_tokens t.literal ++ ts in
     let compared : List Token = marked (op_text t.op) ++ value in
     rw (append_assoc (aggregate_tokens t.agg) (marked (op_text t.op) ++ literal_tokens t.literal) ts)
-        (bind-some aggregate (λ a. operator >>= (λ o. literal >>= (λ l. gives (record { agg = a; op = o; literal = l })))) t.agg (Some (t, ts)) (aggregate_tokens t.agg ++ compared) compared (aggregate-read t.agg h.0 compared)
-            (bind-some operator (λ o. literal >>= (λ l. gives (record { agg = t.agg; op = o; literal = l }))) t.op (Some (t, ts)) compared value (operator-read t.op value)
-                (bind-some literal (λ l. gives (record { agg = t.agg; op = t.op; literal = l })) t.literal (Some (t, ts)) value ts (literal-read t.literal h.1 ts) refl)))
+    (bind-some aggregate (λ a. operator >>= (λ o. literal >>= (λ l. gives (record { agg = a; op = o; literal = l })))) t.agg (Some (t, ts)) (aggregate_tokens t.agg ++ compared) compared (aggregate-read t.agg h.0 compared)
+    (bind-some operator (λ o. literal >>= (λ l. gives (record { agg = t.agg; op = o; literal = l }))) t.op (Some (t, ts)) compared value (operator-read t.op value)
+    (bind-some literal (λ l. gives (record { agg = t.agg; op = t.op; literal = l })) t.literal (Some (t, ts)) value ts (literal-read t.literal h.1 ts) refl)))
 
 -- what may stand behind a key of ORDER BY
 pub record AfterKey (ts : List Token) : Type 0 where
@@ -411,7 +419,7 @@ direction-read true ts after = refl
 direction-read false ts after =
     let down : Rule Bool = word (codes "DESC") >> gives true in
     or-second (word (codes "ASC") >> gives false) (down or gives false) (Some (false, ts)) ts (then-none (word (codes "ASC")) (gives false) ts after.no_asc)
-        (or-second down (gives false) (Some (false, ts)) ts (then-none (word (codes "DESC")) (gives true) ts after.no_desc) refl)
+    (or-second down (gives false) (Some (false, ts)) ts (then-none (word (codes "DESC")) (gives true) ts after.no_desc) refl)
 
 direction-after : (d : Bool) (ts : List Token) → AfterKey ts → AfterColumn (direction_tokens d ++ ts)
 direction-after true ts after = record { dot = refl; opening = refl }
@@ -441,15 +449,15 @@ order-read (order.Position (negsuc n)) h ts after = absurd h
 order-read (order.Column c) h ts after =
     let all : List Token = column_tokens c ++ ts in
     or-second positions (computed or plains) (Some (order.Column c, ts)) all (mapped-none (λ m. order.Position (pos m)) number all (no-number all (column-head c h ts)))
-        (or-second computed plains (Some (order.Column c, ts)) all (mapped-none order.Computed aggregate all (no-aggregate all (column-head c h ts))) (mapped-some order.Column column c all ts (column-read c h ts after)))
+    (or-second computed plains (Some (order.Column c, ts)) all (mapped-none order.Computed aggregate all (no-aggregate all (column-head c h ts))) (mapped-some order.Column column c all ts (column-read c h ts after)))
 order-read (order.Computed a) h ts after =
     let all : List Token = aggregate_tokens a ++ ts in
     or-second positions (computed or plains) (Some (order.Computed a, ts)) all (mapped-none (λ m. order.Position (pos m)) number all (no-number-call a ts))
-        (or-first computed plains (order.Computed a, ts) all (mapped-some order.Computed aggregate a all ts (aggregate-read a h ts)))
+    (or-first computed plains (order.Computed a, ts) all (mapped-some order.Computed aggregate a all ts (aggregate-read a h ts)))
 
 pub key-read : (k : RawKey) → IsKey k → (ts : List Token) → AfterKey ts → order_key (key_tokens k ++ ts) ≡ Some (k, ts)
 key-read k h ts after =
     let tail : List Token = direction_tokens k.descending ++ ts in
     rw (append_assoc (order_tokens k.what) (direction_tokens k.descending) ts)
-        (bind-some (positions or computed or plains) (λ w. direction >>= (λ d. gives (record { what = w; descending = d }))) k.what (Some (k, ts)) (order_tokens k.what ++ tail) tail (order-read k.what h tail (direction-after k.descending ts after))
-            (bind-some direction (λ d. gives (record { what = k.what; descending = d })) k.descending (Some (k, ts)) tail ts (direction-read k.descending ts after) refl))
+    (bind-some (positions or computed or plains) (λ w. direction >>= (λ d. gives (record { what = w; descending = d }))) k.what (Some (k, ts)) (order_tokens k.what ++ tail) tail (order-read k.what h tail (direction-after k.descending ts after))
+    (bind-some direction (λ d. gives (record { what = k.what; descending = d })) k.descending (Some (k, ts)) tail ts (direction-read k.descending ts after) refl))

@@ -54,7 +54,7 @@ table-read : (n : List ℕ) (a : Option (List ℕ)) → IsName n → IfThere IsN
 table-read n a h k ts none =
     let all : List Token = named n ++ (table_alias_tokens a ++ ts) in
     bind-some name (λ m. maybe name >>= (λ b. gives (m, b))) n (Some ((n, a), ts)) all (table_alias_tokens a ++ ts) (name-read n h (table_alias_tokens a ++ ts))
-        (bind-some (maybe name) (λ b. gives (n, b)) a (Some ((n, a), ts)) (table_alias_tokens a ++ ts) ts (maybe-name a k ts none) refl)
+    (bind-some (maybe name) (λ b. gives (n, b)) a (Some ((n, a), ts)) (table_alias_tokens a ++ ts) ts (maybe-name a k ts none) refl)
 
 after-equals : (ts : List Token) → AfterColumn (marked (codes "=") ++ ts)
 after-equals ts = record { dot = refl; opening = refl }
@@ -65,10 +65,10 @@ join-read j h ts after =
     let equals : List Token = marked (codes "=") ++ right in
     let all : List Token = column_tokens j.left ++ equals in
     let inner : bracketed join all ≡ None =
-        bind-none (mark (codes "(") >> join) (λ x. mark (codes ")") >> gives x) all (then-none (mark (codes "(")) join all (no-mark (codes "(") all (column-head j.left h.0 equals))) in
+    bind-none (mark (codes "(") >> join) (λ x. mark (codes ")") >> gives x) all (then-none (mark (codes "(")) join all (no-mark (codes "(") all (column-head j.left h.0 equals))) in
     or-second (bracketed join) join (Some (j, ts)) all inner
-        (bind-some column (λ a. mark (codes "=") >> (column >>= (λ b. gives (record { left = a; right = b })))) j.left (Some (j, ts)) all equals (column-read j.left h.0 equals (after-equals right))
-            (bind-some column (λ b. gives (record { left = j.left; right = b })) j.right (Some (j, ts)) right ts (column-read j.right h.1 ts after) refl))
+    (bind-some column (λ a. mark (codes "=") >> (column >>= (λ b. gives (record { left = a; right = b })))) j.left (Some (j, ts)) all equals (column-read j.left h.0 equals (after-equals right))
+    (bind-some column (λ b. gives (record { left = j.left; right = b })) j.right (Some (j, ts)) right ts (column-read j.right h.1 ts after) refl))
 
 abbrev commas : Rule RawTable
 commas = mapped (table_with None) (mark (codes ",") >> table)
@@ -82,7 +82,7 @@ joined-read n a j h k i ts after =
     let condition : List Token = column_tokens j.left ++ (marked (codes "=") ++ (column_tokens j.right ++ ts)) in
     let on : List Token = named (codes "ON") ++ condition in
     bind-some table joins (n, a) (Some (tabled n a (Some j), ts)) ((named n ++ table_alias_tokens a) ++ on) on (table-read n a h k on refl)
-        (bind-some on_join (λ x. gives (table_with (Some x) (n, a))) j (Some (tabled n a (Some j), ts)) condition ts (join-read j i ts after) refl)
+    (bind-some on_join (λ x. gives (table_with (Some x) (n, a))) j (Some (tabled n a (Some j), ts)) condition ts (join-read j i ts after) refl)
 
 another-read : (n : List ℕ) (a : Option (List ℕ)) (on : Option RawJoin) → IsName n → IfThere IsName a → IfThere IsJoin on → (ts : List Token) → AfterTable ts
     → (commas or joined_table) (joined_tokens on (named n ++ table_alias_tokens a) ++ ts) ≡ Some (tabled n a on, ts)
@@ -92,8 +92,8 @@ another-read n a None h k i ts after =
 another-read n a (Some j) h k i ts after =
     let condition : List Token = column_tokens j.left ++ (marked (codes "=") ++ column_tokens j.right) in
     let whole : (named n ++ table_alias_tokens a) ++ (named (codes "ON") ++ condition) ++ ts ≡ (named n ++ table_alias_tokens a) ++ (named (codes "ON") ++ (column_tokens j.left ++ (marked (codes "=") ++ (column_tokens j.right ++ ts)))) =
-        append_assoc (named n ++ table_alias_tokens a) (named (codes "ON") ++ condition) ts
-        ∙ ap (λ us. (named n ++ table_alias_tokens a) ++ (named (codes "ON") ++ us)) (append_assoc (column_tokens j.left) (marked (codes "=") ++ column_tokens j.right) ts) in
+    append_assoc (named n ++ table_alias_tokens a) (named (codes "ON") ++ condition) ts
+    ∙ ap (λ us. (named n ++ table_alias_tokens a) ++ (named (codes "ON") ++ us)) (append_assoc (column_tokens j.left) (marked (codes "=") ++ column_tokens j.right) ts) in
     let P : List Token → Type 0 = λ us. (commas or joined_table) (named (codes "JOIN") ++ us) ≡ Some (tabled n a (Some j), ts) in
     subst P (sym whole) (joined-read n a j h k i ts after.column)
 
@@ -118,12 +118,12 @@ tables-read (t ∷ more) h ts after end =
     let same : first ≡ t = ap (λ on. tabled t.table t.alias on) (sym h.1) in
     let behind : name others ≡ None = no-name more ts h.2 after in
     let rest : many (commas or joined_table) others ≡ Some (more, ts) =
-        many-read IsTable AfterTable g (commas or joined_table) more ts h.2 (λ u p us ok. another-read u.table u.alias u.on p.0 p.1 p.2 us ok) (λ u us p. another-after u.on (table_tokens u) us) (λ u p. another-some u.on (table_tokens u)) after end in
+    many-read IsTable AfterTable g (commas or joined_table) more ts h.2 (λ u p us ok. another-read u.table u.alias u.on p.0 p.1 p.2 us ok) (λ u us p. another-after u.on (table_tokens u) us) (λ u p. another-some u.on (table_tokens u)) after end in
     let P : RawTable → Type 0 = λ u. from_tables (from_tokens (t ∷ more) ++ ts) ≡ Some (u ∷ more, ts) in
     let all : List Token = (named t.table ++ table_alias_tokens t.alias) ++ others in
     let read : from_tables all ≡ Some (first ∷ more, ts) =
-        bind-some table (λ u. many (commas or joined_table) >>= (λ us. gives (table_with None u ∷ us))) (t.table, t.alias) (Some (first ∷ more, ts)) all others (table-read t.table t.alias h.0.0 h.0.1 others behind)
-            (bind-some (many (commas or joined_table)) (λ us. gives (first ∷ us)) more (Some (first ∷ more, ts)) others ts rest refl) in
+    bind-some table (λ u. many (commas or joined_table) >>= (λ us. gives (table_with None u ∷ us))) (t.table, t.alias) (Some (first ∷ more, ts)) all others (table-read t.table t.alias h.0.0 h.0.1 others behind)
+    (bind-some (many (commas or joined_table)) (λ us. gives (first ∷ us)) more (Some (first ∷ more, ts)) others ts rest refl) in
     let Q : List Token → Type 0 = λ us. from_tables us ≡ Some (first ∷ more, ts) in
     subst P same (subst Q (sym (append_assoc (table_tokens t) (flat_map g more) ts)) read)
   where
@@ -200,7 +200,7 @@ where-read [] h ts begun =
 where-read (c ∷ cs) h ts begun =
     let ws : List (List ℕ) = codes "GROUP" ∷ codes "HAVING" ∷ codes "ORDER" ∷ [] in
     optional-some (word (codes "WHERE") >> all_of condition) (where_tokens (c ∷ cs) ++ ts) ts (c ∷ cs)
-        (parted-read IsCondition AfterColumn condition_tokens condition (word (codes "AND")) (bare kinds.Name (codes "AND")) (c ∷ cs) ts and-parts h (λ x p us ok. condition-read x p us ok) (after-column ws ts begun) (begun-word (codes "AND") ws ts (refl, (refl, (refl, tt))) begun))
+    (parted-read IsCondition AfterColumn condition_tokens condition (word (codes "AND")) (bare kinds.Name (codes "AND")) (c ∷ cs) ts and-parts h (λ x p us ok. condition-read x p us ok) (after-column ws ts begun) (begun-word (codes "AND") ws ts (refl, (refl, (refl, tt))) begun))
 
 groups-read : (cs : List ColName) → Each IsColumn cs → (ts : List Token) → Begun (codes "HAVING" ∷ codes "ORDER" ∷ []) ts → groups (group_tokens cs ++ ts) ≡ Some (cs, ts)
 groups-read [] h ts begun =
@@ -209,7 +209,7 @@ groups-read [] h ts begun =
 groups-read (c ∷ cs) h ts begun =
     let ws : List (List ℕ) = codes "HAVING" ∷ codes "ORDER" ∷ [] in
     optional-some (word (codes "GROUP") >> word (codes "BY") >> listed column) (group_tokens (c ∷ cs) ++ ts) ts (c ∷ cs)
-        (parted-read IsColumn AfterColumn column_tokens column (mark (codes ",")) (bare kinds.Mark (codes ",")) (c ∷ cs) ts comma-columns h (λ x p us ok. column-read x p us ok) (after-column ws ts begun) (begun-mark (codes ",") ws ts begun))
+    (parted-read IsColumn AfterColumn column_tokens column (mark (codes ",")) (bare kinds.Mark (codes ",")) (c ∷ cs) ts comma-columns h (λ x p us ok. column-read x p us ok) (after-column ws ts begun) (begun-mark (codes ",") ws ts begun))
 
 havings-read : (hs : List RawTest) → Each IsTest hs → (ts : List Token) → Begun (codes "ORDER" ∷ []) ts → havings (having_tokens hs ++ ts) ≡ Some (hs, ts)
 havings-read [] h ts begun =
@@ -217,13 +217,13 @@ havings-read [] h ts begun =
 havings-read (t ∷ hs) h ts begun =
     let ws : List (List ℕ) = codes "ORDER" ∷ [] in
     optional-some (word (codes "HAVING") >> all_of test) (having_tokens (t ∷ hs) ++ ts) ts (t ∷ hs)
-        (parted-read IsTest AfterColumn test_tokens test (word (codes "AND")) (bare kinds.Name (codes "AND")) (t ∷ hs) ts and-parts h (λ x p us ok. test-read x p us) (after-column ws ts begun) (begun-word (codes "AND") ws ts (refl, tt) begun))
+    (parted-read IsTest AfterColumn test_tokens test (word (codes "AND")) (bare kinds.Name (codes "AND")) (t ∷ hs) ts and-parts h (λ x p us ok. test-read x p us) (after-column ws ts begun) (begun-word (codes "AND") ws ts (refl, tt) begun))
 
 keys-read : (ks : List RawKey) → Each IsKey ks → keys (order_by_tokens ks ++ []) ≡ Some (ks, [])
 keys-read [] h = refl
 keys-read (k ∷ ks) h =
     optional-some (word (codes "ORDER") >> word (codes "BY") >> listed order_key) (order_by_tokens (k ∷ ks) ++ []) [] (k ∷ ks)
-        (parted-read IsKey AfterKey key_tokens order_key (mark (codes ",")) (bare kinds.Mark (codes ",")) (k ∷ ks) [] comma-keys h (λ x p us ok. key-read x p us ok) (record { column = record { dot = refl; opening = refl }; no_asc = refl; no_desc = refl }) refl)
+    (parted-read IsKey AfterKey key_tokens order_key (mark (codes ",")) (bare kinds.Mark (codes ",")) (k ∷ ks) [] comma-keys h (λ x p us ok. key-read x p us ok) (record { column = record { dot = refl; opening = refl }; no_asc = refl; no_desc = refl }) refl)
 
 -- ---- the whole
 
@@ -243,7 +243,7 @@ query-read q h =
     let five : Begun (codes "AS" ∷ begun_after) after_tables = as_of-begun q.as_of after_scn four in
     let no_as : word (codes "AS") after_scn ≡ None = begun-word (codes "AS") begun_after after_scn (refl, (refl, (refl, (refl, tt)))) four in
     let i : listed item items ≡ Some (q.items, named (codes "FROM") ++ from) =
-        parted-read IsItem AfterItem item_tokens item (mark (codes ",")) (bare kinds.Mark (codes ",")) q.items (named (codes "FROM") ++ from) comma-items h.items (λ x p us ok. item-read x p us ok) (record { column = record { dot = refl; opening = refl }; no_as = refl; no_name = refl }) refl in
+    parted-read IsItem AfterItem item_tokens item (mark (codes ",")) (bare kinds.Mark (codes ",")) q.items (named (codes "FROM") ++ from) comma-items h.items (λ x p us ok. item-read x p us ok) (record { column = record { dot = refl; opening = refl }; no_as = refl; no_name = refl }) refl in
     let t : from_tables from ≡ Some (q.tables, after_tables) = tables-read q.tables h.tables after_tables (after-tables after_tables five) (no-tables after_tables five) in
     let s : as_of after_tables ≡ Some (q.as_of, after_scn) = as_of-read q.as_of h.as_of after_scn no_as in
     let c : where_conditions after_scn ≡ Some (q.conditions, after_where) = where-read q.conditions h.conditions after_where three in
@@ -252,15 +252,15 @@ query-read q h =
     let o : keys last ≡ Some (q.order, []) = keys-read q.order h.order in
     let r : Option (RawQuery × List Token) = Some (q, []) in
     let made : List RawItem → List RawTable → Option ℤ → List RawCondition → List ColName → List RawTest → List RawKey → RawQuery =
-        λ i t s c g v o. record { items = i; tables = t; as_of = s; conditions = c; groups = g; having = v; order = o } in
+    λ i t s c g v o. record { items = i; tables = t; as_of = s; conditions = c; groups = g; having = v; order = o } in
     let read : select (named (codes "SELECT") ++ items) ≡ r =
-        bind-some (listed item) (λ i. word (codes "FROM") >> (from_tables >>= (λ t. as_of >>= (λ s. where_conditions >>= (λ c. groups >>= (λ g. havings >>= (λ v. keys >>= (λ o. gives (made i t s c g v o))))))))) q.items r items (named (codes "FROM") ++ from) i
-        (bind-some from_tables (λ t. as_of >>= (λ s. where_conditions >>= (λ c. groups >>= (λ g. havings >>= (λ v. keys >>= (λ o. gives (made q.items t s c g v o))))))) q.tables r from after_tables t
-        (bind-some as_of (λ s. where_conditions >>= (λ c. groups >>= (λ g. havings >>= (λ v. keys >>= (λ o. gives (made q.items q.tables s c g v o)))))) q.as_of r after_tables after_scn s
-        (bind-some where_conditions (λ c. groups >>= (λ g. havings >>= (λ v. keys >>= (λ o. gives (made q.items q.tables q.as_of c g v o))))) q.conditions r after_scn after_where c
-        (bind-some groups (λ g. havings >>= (λ v. keys >>= (λ o. gives (made q.items q.tables q.as_of q.conditions g v o)))) q.groups r after_where after_groups g
-        (bind-some havings (λ v. keys >>= (λ o. gives (made q.items q.tables q.as_of q.conditions q.groups v o))) q.having r after_groups last v
-        (bind-some keys (λ o. gives (made q.items q.tables q.as_of q.conditions q.groups q.having o)) q.order r last [] o refl)))))) in
+    bind-some (listed item) (λ i. word (codes "FROM") >> (from_tables >>= (λ t. as_of >>= (λ s. where_conditions >>= (λ c. groups >>= (λ g. havings >>= (λ v. keys >>= (λ o. gives (made i t s c g v o))))))))) q.items r items (named (codes "FROM") ++ from) i
+    (bind-some from_tables (λ t. as_of >>= (λ s. where_conditions >>= (λ c. groups >>= (λ g. havings >>= (λ v. keys >>= (λ o. gives (made q.items t s c g v o))))))) q.tables r from after_tables t
+    (bind-some as_of (λ s. where_conditions >>= (λ c. groups >>= (λ g. havings >>= (λ v. keys >>= (λ o. gives (made q.items q.tables s c g v o)))))) q.as_of r after_tables after_scn s
+    (bind-some where_conditions (λ c. groups >>= (λ g. havings >>= (λ v. keys >>= (λ o. gives (made q.items q.tables q.as_of c g v o))))) q.conditions r after_scn after_where c
+    (bind-some groups (λ g. havings >>= (λ v. keys >>= (λ o. gives (made q.items q.tables q.as_of q.conditions g v o)))) q.groups r after_where after_groups g
+    (bind-some havings (λ v. keys >>= (λ o. gives (made q.items q.tables q.as_of q.conditions q.groups v o))) q.having r after_groups last v
+    (bind-some keys (λ o. gives (made q.items q.tables q.as_of q.conditions q.groups q.having o)) q.order r last [] o refl)))))) in
     subst (λ us. select us ≡ r) (whole q) read
   where
     whole : (q : RawQuery) → named (codes "SELECT") ++ (listed_tokens comma item_tokens q.items ++ (named (codes "FROM") ++ (from_tokens q.tables

@@ -7,30 +7,30 @@ use Rattle.wh_lex.specs.declared.token.Token.{Token}
 use Rattle.wh_lex.specs.declared.token.TokenKind.{TokenKind}
 use Rattle.wh_lex.specs.declared.token.TokenKind.TheVariants as kinds
 use Rattle.def_grammar.specs.Reading.{Rule, bracketed, gives, is_name, is_token, listed, many, many_times, mapped, mark, maybe, optional_list, or_else, same_token_kind, token_where, word, ◌>>=◌, ◌>>◌, ◌or◌}
-use Rattle.def_grammar.specs.Written.{Each, EachOfSome, IfThere}
-use Rattle.wh_query_print.proofs.Laid.{IsToken, unplaced}
+use Rattle.def_grammar.specs.Written.{Each, EachOfSome, IfThere, IsSpelled}
+use Rattle.wh_query_print.proofs.Laid.{unplaced}
 
 -- read alike with the places and without: the same value, of which P holds, and the same rest
 abbrev pub Alike : {A : Type 0} → (A → Type 0) → Option (A × List Token) → Option (A × List Token) → Type 0
 Alike P None None = Unit {0}
 Alike P None (Some q) = ⊥
 Alike P (Some p) None = ⊥
-Alike P (Some p) (Some q) = (q.0 ≡ p.0) × P p.0 × (q.1 ≡ map unplaced p.1) × Each IsToken p.1
+Alike P (Some p) (Some q) = (q.0 ≡ p.0) × P p.0 × (q.1 ≡ map unplaced p.1) × Each IsSpelled p.1
 
 -- the same rest, whatever the values are
 abbrev pub Along : {A : Type 0} → Option (A × List Token) → Option (A × List Token) → Type 0
 Along None None = Unit {0}
 Along None (Some q) = ⊥
 Along (Some p) None = ⊥
-Along (Some p) (Some q) = (q.1 ≡ map unplaced p.1) × Each IsToken p.1
+Along (Some p) (Some q) = (q.1 ≡ map unplaced p.1) × Each IsSpelled p.1
 
 -- a rule that gives only values of which P holds
 pub record Sound {A : Type 0} (P : A → Type 0) (r : Rule A) : Type 0 where
-  pub alike : (ts : List Token) → Each IsToken ts → Alike P (r ts) (r (map unplaced ts))
+  pub alike : (ts : List Token) → Each IsSpelled ts → Alike P (r ts) (r (map unplaced ts))
 
 -- a rule of which only the rest counts
 pub record Blind {A : Type 0} (r : Rule A) : Type 0 where
-  pub along : (ts : List Token) → Each IsToken ts → Along (r ts) (r (map unplaced ts))
+  pub along : (ts : List Token) → Each IsSpelled ts → Along (r ts) (r (map unplaced ts))
 
 along-of : {A : Type 0} (P : A → Type 0) (o u : Option (A × List Token)) → Alike P o u → Along o u
 along-of P None None h = tt
@@ -99,7 +99,7 @@ const-sound Q x r h k = record { alike = λ ts all. const-alike Q x k (r ts) (r 
 
 -- ---- one rule or another
 
-or-alike : {A : Type 0} (P : A → Type 0) (s : Rule A) → Sound P s → (ts : List Token) → Each IsToken ts → (o u : Option (A × List Token)) → Alike P o u
+or-alike : {A : Type 0} (P : A → Type 0) (s : Rule A) → Sound P s → (ts : List Token) → Each IsSpelled ts → (o u : Option (A × List Token)) → Alike P o u
     → Alike P (or_else o s ts) (or_else u s (map unplaced ts))
 or-alike P s k ts all None None h = k.alike ts all
 or-alike P s k ts all None (Some q) h = absurd h
@@ -112,7 +112,7 @@ or-sound P r s h k = record { alike = λ ts all. or-alike P s k ts all (r ts) (r
 pub maybe-sound : {A : Type 0} (P : A → Type 0) (r : Rule A) → Sound P r → Sound (IfThere P) (maybe r)
 maybe-sound P r h = or-sound (IfThere P) (mapped Some r) (gives None) (mapped-sound P (IfThere P) Some r h (λ x p. p)) (gives-sound (IfThere P) None tt)
 
-maybe-along : {A : Type 0} (ts : List Token) → Each IsToken ts → (o u : Option (A × List Token)) → Along o u
+maybe-along : {A : Type 0} (ts : List Token) → Each IsSpelled ts → (o u : Option (A × List Token)) → Along o u
     → Along (or_else (option_map (λ p. (Some p.0, p.1)) o) (gives None) ts) (or_else (option_map (λ p. (Some p.0, p.1)) u) (gives None) (map unplaced ts))
 maybe-along ts all None None h = (refl, all)
 maybe-along ts all None (Some q) h = absurd h
@@ -131,17 +131,17 @@ cons-alike P x k None (Some q) h = absurd h
 cons-alike P x k (Some p) None h = absurd h
 cons-alike P x k (Some p) (Some q) h = (ap (λ xs. x ∷ xs) h.0, (k, h.1), h.2, h.3)
 
-again-alike : {A : Type 0} (P : A → Type 0) (n : ℕ) (r : Rule A) (ts : List Token) → Each IsToken ts
-    → ((us : List Token) → Each IsToken us → Alike (Each P) (many_times n r us) (many_times n r (map unplaced us)))
+again-alike : {A : Type 0} (P : A → Type 0) (n : ℕ) (r : Rule A) (ts : List Token) → Each IsSpelled ts
+    → ((us : List Token) → Each IsSpelled us → Alike (Each P) (many_times n r us) (many_times n r (map unplaced us)))
     → (o u : Option (A × List Token)) → Alike P o u
     → Alike (Each P) (option_case o (Some ([], ts)) (λ p. option_map (λ q. (p.0 ∷ q.0, q.1)) (many_times n r p.1)))
-        (option_case u (Some ([], map unplaced ts)) (λ p. option_map (λ q. (p.0 ∷ q.0, q.1)) (many_times n r p.1)))
+    (option_case u (Some ([], map unplaced ts)) (λ p. option_map (λ q. (p.0 ∷ q.0, q.1)) (many_times n r p.1)))
 again-alike P n r ts all more None None h = (refl, tt, refl, all)
 again-alike P n r ts all more None (Some q) h = absurd h
 again-alike P n r ts all more (Some p) None h = absurd h
 again-alike P n r ts all more (Some p) (Some q) h = rw (h.0, h.2) (cons-alike P p.0 h.1 (many_times n r p.1) (many_times n r (map unplaced p.1)) (more p.1 h.3))
 
-times-alike : {A : Type 0} (P : A → Type 0) (n : ℕ) (r : Rule A) → Sound P r → (ts : List Token) → Each IsToken ts → Alike (Each P) (many_times n r ts) (many_times n r (map unplaced ts))
+times-alike : {A : Type 0} (P : A → Type 0) (n : ℕ) (r : Rule A) → Sound P r → (ts : List Token) → Each IsSpelled ts → Alike (Each P) (many_times n r ts) (many_times n r (map unplaced ts))
 times-alike P zero r h ts all = (refl, tt, refl, all)
 times-alike P (suc n) r h ts all = again-alike P n r ts all (λ us each. times-alike P n r h us each) (r ts) (r (map unplaced ts)) (h.alike ts all)
 
@@ -150,11 +150,11 @@ many-sound P r h = record { alike = λ ts all. rw (length-map ts unplaced) (time
 
 -- ---- tokens
 
-token-along : (t : Token) (ts : List Token) (b : Bool) → Each IsToken ts → Along (where_true b (t, ts)) (where_true b (unplaced t, map unplaced ts))
+token-along : (t : Token) (ts : List Token) (b : Bool) → Each IsSpelled ts → Along (where_true b (t, ts)) (where_true b (unplaced t, map unplaced ts))
 token-along t ts true all = (refl, all)
 token-along t ts false all = tt
 
-where-along : (k : TokenKind) (w : List ℕ) (ts : List Token) → Each IsToken ts → Along (token_where (is_token k w) ts) (token_where (is_token k w) (map unplaced ts))
+where-along : (k : TokenKind) (w : List ℕ) (ts : List Token) → Each IsSpelled ts → Along (token_where (is_token k w) ts) (token_where (is_token k w) (map unplaced ts))
 where-along k w [] all = tt
 where-along k w (t ∷ ts) all = token-along t ts (is_token k w t) all.1
 
@@ -169,13 +169,13 @@ mark-blind w = record { along = λ ts all. where-along kinds.Mark w ts all }
 pub listed-sound : {A : Type 0} (P : A → Type 0) (r : Rule A) → Sound P r → Sound (EachOfSome P) (listed r)
 listed-sound P r h =
     bind-sound P (EachOfSome P) r (λ x. many (mark (codes ",") >> r) >>= (λ xs. gives (x ∷ xs))) h (λ x p.
-        bind-sound (Each P) (EachOfSome P) (many (mark (codes ",") >> r)) (λ xs. gives (x ∷ xs)) (many-sound P (mark (codes ",") >> r) (then-sound P (mark (codes ",")) r (mark-blind (codes ",")) h)) (λ xs ps.
-            gives-sound (EachOfSome P) (x ∷ xs) (p, ps)))
+    bind-sound (Each P) (EachOfSome P) (many (mark (codes ",") >> r)) (λ xs. gives (x ∷ xs)) (many-sound P (mark (codes ",") >> r) (then-sound P (mark (codes ",")) r (mark-blind (codes ",")) h)) (λ xs ps.
+    gives-sound (EachOfSome P) (x ∷ xs) (p, ps)))
 
 pub bracketed-sound : {A : Type 0} (P : A → Type 0) (r : Rule A) → Sound P r → Sound P (bracketed r)
 bracketed-sound P r h =
     bind-sound P P (mark (codes "(") >> r) (λ x. mark (codes ")") >> gives x) (then-sound P (mark (codes "(")) r (mark-blind (codes "(")) h) (λ x p.
-        then-sound P (mark (codes ")")) (gives x) (mark-blind (codes ")")) (gives-sound P x p))
+    then-sound P (mark (codes ")")) (gives x) (mark-blind (codes ")")) (gives-sound P x p))
 
 each-of-some : {A : Type 0} (P : A → Type 0) (o : Option (List A)) → IfThere (EachOfSome P) o → Each P (unwrap_or o [])
 each-of-some P None h = tt

@@ -2,7 +2,7 @@ ghost use Rattle.def_grammar.specs.Canonical.{another_table_tokens, as_of_tokens
 ghost use Rattle.std.specs.Prelude.{◌≡◌, ◌++◌, ◌∷◌, OnOk, [], codes, flat_map};
 
 use crate::parts::push_signed;
-use crate::pieces::{Pieces, Spoken, push_more};
+use crate::pieces::{Pieces, ToTokens, push_more};
 use std::alloc::AllocError;
 use wh_base::queries::{ColName, RawCondition, RawJoin, RawKey, RawOrder, RawTable, RawTest};
 use wh_base::seq::Seq;
@@ -10,10 +10,10 @@ use wh_base::txt::Txt;
 use wh_base::values::{Literal, Op};
 use wh_lex::token::TokenKind;
 
-impl Spoken for RawTable {
+impl ToTokens for RawTable {
     ghost tokens = { another_table_tokens };
 
-    fn push_tokens<'a>(&'a self, out: &mut Pieces<'a>) -> Result<(), AllocError> {
+    fn to_tokens<'a>(&'a self, out: &mut Pieces<'a>) -> Result<(), AllocError> {
         match &self.on {
             None => {
                 out.push(TokenKind::Mark, b",")?;
@@ -54,9 +54,9 @@ fn push_join<'a>(out: &mut Pieces<'a>, join: &'a RawJoin) -> Result<(), AllocErr
     ensures { OnOk result (out.new ≡ out.old
         ++ (column_tokens join.now.left ++ (marked (codes "=") ++ column_tokens join.now.right))) }
 {
-    join.left.push_tokens(out)?;
+    join.left.to_tokens(out)?;
     out.push(TokenKind::Mark, b"=")?;
-    join.right.push_tokens(out)?;
+    join.right.to_tokens(out)?;
     Ok(())
 }
 
@@ -73,17 +73,17 @@ pub fn push_tables<'a>(out: &mut Pieces<'a>, tables: &'a [RawTable]) -> Result<(
 }
 
 // The parts one after another.
-fn push_all<'a, T: Spoken>(out: &mut Pieces<'a>, parts: &'a [T]) -> Result<(), AllocError>
+fn push_all<'a, T: ToTokens>(out: &mut Pieces<'a>, parts: &'a [T]) -> Result<(), AllocError>
     ensures { OnOk result (out.new ≡ out.old ++ flat_map T.tokens parts.now) }
 {
     for part in parts {
-        part.push_tokens(out)?;
+        part.to_tokens(out)?;
     }
     Ok(())
 }
 
 /// The parts, with this token between each two.
-pub fn push_listed<'a, T: Spoken>(
+pub fn push_listed<'a, T: ToTokens>(
     out: &mut Pieces<'a>,
     kind: TokenKind,
     text: &'a [u8],
@@ -95,7 +95,7 @@ pub fn push_listed<'a, T: Spoken>(
     let Some((first, rest)) = parts.split_first() else {
         return Ok(());
     };
-    first.push_tokens(out)?;
+    first.to_tokens(out)?;
     push_more(out, kind, text, rest)?;
     Ok(())
 }
@@ -114,16 +114,12 @@ fn op_text(op: Op) -> &'static str
 }
 
 // A comparison with a literal.
-fn push_compared<'a>(
-    out: &mut Pieces<'a>,
-    op: Op,
-    literal: &'a Literal,
-) -> Result<(), AllocError>
+fn push_compared<'a>(out: &mut Pieces<'a>, op: Op, literal: &'a Literal) -> Result<(), AllocError>
     ensures { OnOk result (out.new ≡ out.old
         ++ (marked (op_text op) ++ literal_tokens literal.now)) }
 {
     out.push(TokenKind::Mark, op_text(op).as_bytes())?;
-    literal.push_tokens(out)?;
+    literal.to_tokens(out)?;
     Ok(())
 }
 
@@ -137,9 +133,9 @@ fn push_between<'a>(
         ++ (literal_tokens low.now ++ (named (codes "AND") ++ literal_tokens high.now)))) }
 {
     out.push(TokenKind::Name, b"BETWEEN")?;
-    low.push_tokens(out)?;
+    low.to_tokens(out)?;
     out.push(TokenKind::Name, b"AND")?;
-    high.push_tokens(out)?;
+    high.to_tokens(out)?;
     Ok(())
 }
 
@@ -167,7 +163,7 @@ fn push_condition_tail<'a>(
         RawCondition::Between(_, low, high) => push_between(out, low, high),
         RawCondition::Equal(_, other) => {
             out.push(TokenKind::Mark, b"=")?;
-            other.push_tokens(out)?;
+            other.to_tokens(out)?;
             Ok(())
         }
         RawCondition::OneOf(_, literals) => push_one_of(out, literals.as_slice()),
@@ -199,34 +195,34 @@ fn condition_column(condition: &RawCondition) -> &ColName
     }
 }
 
-impl Spoken for RawCondition {
+impl ToTokens for RawCondition {
     ghost tokens = { condition_tokens };
 
-    fn push_tokens<'a>(&'a self, out: &mut Pieces<'a>) -> Result<(), AllocError> {
-        condition_column(self).push_tokens(out)?;
+    fn to_tokens<'a>(&'a self, out: &mut Pieces<'a>) -> Result<(), AllocError> {
+        condition_column(self).to_tokens(out)?;
         push_condition_tail(out, self)?;
         Ok(())
     }
 }
 
-impl Spoken for RawTest {
+impl ToTokens for RawTest {
     ghost tokens = { test_tokens };
 
-    fn push_tokens<'a>(&'a self, out: &mut Pieces<'a>) -> Result<(), AllocError> {
-        self.agg.push_tokens(out)?;
+    fn to_tokens<'a>(&'a self, out: &mut Pieces<'a>) -> Result<(), AllocError> {
+        self.agg.to_tokens(out)?;
         push_compared(out, self.op, &self.literal)?;
         Ok(())
     }
 }
 
-impl Spoken for RawOrder {
+impl ToTokens for RawOrder {
     ghost tokens = { order_tokens };
 
-    fn push_tokens<'a>(&'a self, out: &mut Pieces<'a>) -> Result<(), AllocError> {
+    fn to_tokens<'a>(&'a self, out: &mut Pieces<'a>) -> Result<(), AllocError> {
         match self {
             RawOrder::Position(number) => push_signed(out, *number),
-            RawOrder::Column(column) => column.push_tokens(out),
-            RawOrder::Computed(aggregate) => aggregate.push_tokens(out),
+            RawOrder::Column(column) => column.to_tokens(out),
+            RawOrder::Computed(aggregate) => aggregate.to_tokens(out),
         }
     }
 }
@@ -240,11 +236,11 @@ fn push_direction(out: &mut Pieces<'_>, descending: bool) -> Result<(), AllocErr
     Ok(())
 }
 
-impl Spoken for RawKey {
+impl ToTokens for RawKey {
     ghost tokens = { key_tokens };
 
-    fn push_tokens<'a>(&'a self, out: &mut Pieces<'a>) -> Result<(), AllocError> {
-        self.what.push_tokens(out)?;
+    fn to_tokens<'a>(&'a self, out: &mut Pieces<'a>) -> Result<(), AllocError> {
+        self.what.to_tokens(out)?;
         push_direction(out, self.descending)?;
         Ok(())
     }

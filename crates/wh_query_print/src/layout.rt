@@ -1,7 +1,7 @@
 ghost use Rattle.def_grammar.specs.Canonical.{is_joined, laid, laid_behind, quoted_text, written_token};
 ghost use Rattle.def_grammar.specs.Reading.{doubled, is_token, same_token_kind};
 ghost use Rattle.std.specs.Prelude.{◌≡◌, ◌++◌, OnOk, flat_map, map};
-ghost use Rattle.wh_query_print.specs.Spoken.{piece_token};
+ghost use Rattle.wh_query_print.specs.Pieces.{piece_token};
 
 use crate::pieces::Piece;
 use itoa::Buffer;
@@ -95,11 +95,7 @@ fn push_piece(out: &mut Vec<u8>, piece: &Piece<'_>) -> Result<(), AllocError>
 }
 
 // The pieces behind a first one.
-fn push_behind(
-    out: &mut Vec<u8>,
-    first: &Piece<'_>,
-    rest: &[Piece<'_>],
-) -> Result<(), AllocError>
+fn push_behind(out: &mut Vec<u8>, first: &Piece<'_>, rest: &[Piece<'_>]) -> Result<(), AllocError>
     ensures { OnOk result (out.new.items
         ≡ out.old.items ++ laid_behind (piece_token first.now) (map piece_token rest.now)) }
 {

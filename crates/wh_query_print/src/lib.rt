@@ -1,9 +1,11 @@
-//! The canonical text of a query.
+//! The canonical text of a query, which reads back as that query.
 #![tactic(auto)]
 
-pub mod clauses;
+mod clauses;
 pub mod laws;
-pub mod layout;
-pub mod parts;
-pub mod pieces;
+mod layout;
+mod parts;
+mod pieces;
 pub mod query;
+#[cfg(test)]
+mod tests;

@@ -1,7 +1,7 @@
 ghost use Rattle.def_grammar.specs.Canonical.{aggregate_tokens, alias_tokens, call_tokens, column_tokens, expression_tokens, item_tokens, literal_tokens, marked, named, part_tokens, qualifier_tokens, signed_tokens, what_tokens};
 ghost use Rattle.std.specs.Prelude.{◌≡◌, ◌++◌, OnOk, codes};
 
-use crate::pieces::{Pieces, Spoken};
+use crate::pieces::{Pieces, ToTokens};
 use std::alloc::AllocError;
 use wh_base::queries::{ColName, NamePart, RawAgg, RawExpr, RawItem, RawWhat};
 use wh_base::txt::Txt;
@@ -19,10 +19,10 @@ pub fn push_signed(out: &mut Pieces<'_>, number: i128) -> Result<(), AllocError>
     Ok(())
 }
 
-impl Spoken for Literal {
+impl ToTokens for Literal {
     ghost tokens = { literal_tokens };
 
-    fn push_tokens<'a>(&'a self, out: &mut Pieces<'a>) -> Result<(), AllocError> {
+    fn to_tokens<'a>(&'a self, out: &mut Pieces<'a>) -> Result<(), AllocError> {
         match self {
             Literal::Number(number) => push_signed(out, *number),
             Literal::Quoted(text) => out.push(TokenKind::Text, text.as_slice()),
@@ -52,11 +52,7 @@ fn push_rowid<'a>(out: &mut Pieces<'a>, qualifier: &'a Option<Txt>) -> Result<()
 }
 
 // The name of a package's function, with its opening parenthesis.
-fn push_member<'a>(
-    out: &mut Pieces<'a>,
-    owner: &'a [u8],
-    name: &'a [u8],
-) -> Result<(), AllocError>
+fn push_member<'a>(out: &mut Pieces<'a>, owner: &'a [u8], name: &'a [u8]) -> Result<(), AllocError>
     ensures { OnOk result (out.new ≡ out.old
         ++ (named owner.now ++ (marked (codes ".") ++ (named name.now ++ marked (codes "("))))) }
 {
@@ -91,10 +87,10 @@ fn push_marker<'a>(out: &mut Pieces<'a>, qualifier: &'a Option<Txt>) -> Result<(
     Ok(())
 }
 
-impl Spoken for ColName {
+impl ToTokens for ColName {
     ghost tokens = { column_tokens };
 
-    fn push_tokens<'a>(&'a self, out: &mut Pieces<'a>) -> Result<(), AllocError> {
+    fn to_tokens<'a>(&'a self, out: &mut Pieces<'a>) -> Result<(), AllocError> {
         match &self.part {
             NamePart::Plain(name) => {
                 push_qualifier(out, &self.qualifier)?;
@@ -116,18 +112,18 @@ fn push_product<'a>(
     ensures { OnOk result (out.new
         ≡ out.old ++ expression_tokens (RawExpr.Times left.now right.now)) }
 {
-    left.push_tokens(out)?;
+    left.to_tokens(out)?;
     out.push(TokenKind::Mark, b"*")?;
-    right.push_tokens(out)?;
+    right.to_tokens(out)?;
     Ok(())
 }
 
-impl Spoken for RawExpr {
+impl ToTokens for RawExpr {
     ghost tokens = { expression_tokens };
 
-    fn push_tokens<'a>(&'a self, out: &mut Pieces<'a>) -> Result<(), AllocError> {
+    fn to_tokens<'a>(&'a self, out: &mut Pieces<'a>) -> Result<(), AllocError> {
         match self {
-            RawExpr::Column(column) => column.push_tokens(out),
+            RawExpr::Column(column) => column.to_tokens(out),
             RawExpr::Times(left, right) => push_product(out, left, right),
             RawExpr::Constant(number) => push_signed(out, *number),
         }
@@ -144,16 +140,12 @@ fn push_open<'a>(out: &mut Pieces<'a>, word: &'a [u8]) -> Result<(), AllocError>
 }
 
 // An aggregate of this keyword.
-fn push_call<'a>(
-    out: &mut Pieces<'a>,
-    word: &'a [u8],
-    inner: &'a RawExpr,
-) -> Result<(), AllocError>
+fn push_call<'a>(out: &mut Pieces<'a>, word: &'a [u8], inner: &'a RawExpr) -> Result<(), AllocError>
     ensures { OnOk result (out.new
         ≡ out.old ++ call_tokens word.now (expression_tokens inner.now)) }
 {
     push_open(out, word)?;
-    inner.push_tokens(out)?;
+    inner.to_tokens(out)?;
     out.push(TokenKind::Mark, b")")?;
     Ok(())
 }
@@ -167,10 +159,10 @@ fn push_count_rows(out: &mut Pieces<'_>) -> Result<(), AllocError>
     Ok(())
 }
 
-impl Spoken for RawAgg {
+impl ToTokens for RawAgg {
     ghost tokens = { aggregate_tokens };
 
-    fn push_tokens<'a>(&'a self, out: &mut Pieces<'a>) -> Result<(), AllocError> {
+    fn to_tokens<'a>(&'a self, out: &mut Pieces<'a>) -> Result<(), AllocError> {
         match self {
             RawAgg::CountRows => push_count_rows(out),
             RawAgg::CountOf(inner) => push_call(out, b"COUNT", inner),
@@ -182,13 +174,13 @@ impl Spoken for RawAgg {
     }
 }
 
-impl Spoken for RawWhat {
+impl ToTokens for RawWhat {
     ghost tokens = { what_tokens };
 
-    fn push_tokens<'a>(&'a self, out: &mut Pieces<'a>) -> Result<(), AllocError> {
+    fn to_tokens<'a>(&'a self, out: &mut Pieces<'a>) -> Result<(), AllocError> {
         match self {
-            RawWhat::Plain(column) => column.push_tokens(out),
-            RawWhat::Computed(aggregate) => aggregate.push_tokens(out),
+            RawWhat::Plain(column) => column.to_tokens(out),
+            RawWhat::Computed(aggregate) => aggregate.to_tokens(out),
         }
     }
 }
@@ -206,11 +198,11 @@ fn push_alias<'a>(out: &mut Pieces<'a>, alias: &'a Option<Txt>) -> Result<(), Al
     }
 }
 
-impl Spoken for RawItem {
+impl ToTokens for RawItem {
     ghost tokens = { item_tokens };
 
-    fn push_tokens<'a>(&'a self, out: &mut Pieces<'a>) -> Result<(), AllocError> {
-        self.what.push_tokens(out)?;
+    fn to_tokens<'a>(&'a self, out: &mut Pieces<'a>) -> Result<(), AllocError> {
+        self.what.to_tokens(out)?;
         push_alias(out, &self.alias)?;
         Ok(())
     }

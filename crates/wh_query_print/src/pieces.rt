@@ -1,7 +1,7 @@
 ghost use Rattle.def_grammar.specs.Canonical.{bare, more_tokens, numbered};
 ghost use Rattle.std.specs.Prelude.{◌≡◌, ◌++◌, ◌∷◌, List, OnOk, [], map};
 ghost use Rattle.wh_lex.specs.declared.token.Token.{Token};
-ghost use Rattle.wh_query_print.specs.Spoken.{piece_token};
+ghost use Rattle.wh_query_print.specs.Pieces.{piece_token};
 
 use std::alloc::{AllocError, Global};
 use std::marker::Model;
@@ -25,7 +25,7 @@ impl<'a> Model for Pieces<'a> {
     ghost use Rattle.std.specs.Coded.{coded_list};
     ghost use Rattle.wh_lex.specs.declared.token.Token.{Token};
     ghost use Rattle.wh_lex.specs.contracts.token.Token.{the_row};
-    ghost use Rattle.wh_query_print.specs.Spoken.{piece_token};
+    ghost use Rattle.wh_query_print.specs.Pieces.{piece_token};
 
     ghost Value = { List Token };
 
@@ -69,16 +69,16 @@ impl<'a> Pieces<'a> {
 }
 
 /// A part of a query that is written by tokens.
-pub trait Spoken {
+pub trait ToTokens {
     ghost tokens: { Self → List Token };
 
     /// Its tokens at the end of the others. An error says that memory ran out.
-    fn push_tokens<'a>(&'a self, out: &mut Pieces<'a>) -> Result<(), AllocError>
+    fn to_tokens<'a>(&'a self, out: &mut Pieces<'a>) -> Result<(), AllocError>
         ensures { OnOk result (out.new ≡ out.old ++ tokens self.now) };
 }
 
 /// The parts, each behind this token.
-pub fn push_more<'a, T: Spoken>(
+pub fn push_more<'a, T: ToTokens>(
     out: &mut Pieces<'a>,
     kind: TokenKind,
     text: &'a [u8],
@@ -89,7 +89,7 @@ pub fn push_more<'a, T: Spoken>(
 {
     for part in parts {
         out.push(kind, text)?;
-        part.push_tokens(out)?;
+        part.to_tokens(out)?;
     }
     Ok(())
 }

@@ -1,11 +1,11 @@
 ghost use Rattle.def_grammar.specs.Canonical.{group_tokens, having_tokens, order_by_tokens, query_text, query_tokens, where_tokens};
 ghost use Rattle.std.specs.Prelude.{◌≡◌, ◌++◌, IfOk, OnOk};
 ghost use Rattle.def_grammar.specs.Written.{IsWritten, ReadsAs};
-ghost use Rattle.wh_query_print.specs.Spoken.{head_tokens, tail_tokens};
+ghost use Rattle.wh_query_print.specs.Pieces.{head_tokens, tail_tokens};
 
 use crate::clauses::{push_as_of, push_listed, push_tables};
 use crate::layout::push_laid;
-use crate::pieces::{Pieces, Spoken};
+use crate::pieces::{Pieces, ToTokens};
 use std::alloc::{AllocError, Global};
 use wh_base::queries::{ColName, RawCondition, RawKey, RawQuery, RawTest};
 use wh_base::txt::Txt;
@@ -80,10 +80,10 @@ fn push_tail<'a>(out: &mut Pieces<'a>, query: &'a RawQuery) -> Result<(), AllocE
     Ok(())
 }
 
-impl Spoken for RawQuery {
+impl ToTokens for RawQuery {
     ghost tokens = { query_tokens };
 
-    fn push_tokens<'a>(&'a self, out: &mut Pieces<'a>) -> Result<(), AllocError> {
+    fn to_tokens<'a>(&'a self, out: &mut Pieces<'a>) -> Result<(), AllocError> {
         push_head(out, self)?;
         push_tail(out, self)?;
         Ok(())
@@ -110,7 +110,7 @@ fn written(alloc: Global, query: &RawQuery) -> Result<Txt, AllocError>
     ensures { IfOk result (λ text. text ≡ query_text query.now) }
 {
     let mut pieces = Pieces::new(alloc);
-    query.push_tokens(&mut pieces)?;
+    query.to_tokens(&mut pieces)?;
     let mut text = Vec::new(alloc);
     push_laid(&mut text, pieces.as_slice())?;
     Txt::from_vec(text)

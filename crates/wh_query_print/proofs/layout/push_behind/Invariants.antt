@@ -1,6 +1,6 @@
 use Rattle.std.proofs.Common.{◌≡◌, ◌++◌, drop, map}
 use Rattle.def_grammar.specs.Canonical.{laid_behind}
-use Rattle.wh_query_print.specs.Spoken.{piece_token}
+use Rattle.wh_query_print.specs.Pieces.{piece_token}
 use Rattle.wh_query_print.proofs.layout.push_behind.Given as goal
 
 abbrev pub invariant-loop-piece : goal.invariant-loop-piece
