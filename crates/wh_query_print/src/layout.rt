@@ -1,12 +1,13 @@
 ghost use Rattle.def_grammar.specs.Canonical.{is_joined, laid, laid_behind, quoted_text, written_token};
-ghost use Rattle.def_grammar.specs.Reading.{doubled, is_token, same_token_kind};
-ghost use Rattle.std.specs.Prelude.{◌≡◌, ◌++◌, OnOk, flat_map, map};
+ghost use Rattle.def_grammar.specs.Reading.{is_token, same_token_kind};
+ghost use Rattle.std.specs.Prelude.{◌≡◌, ◌++◌, OnOk, map};
 ghost use Rattle.wh_query_print.specs.Pieces.{piece_token};
 
 use crate::pieces::Piece;
 use itoa::Buffer;
 use std::alloc::AllocError;
 use wh_lex::token::TokenKind;
+use wh_query_text::spelling::push_doubled;
 
 // The piece is this mark.
 fn is_mark(piece: &Piece<'_>, text: &[u8]) -> bool
@@ -58,18 +59,6 @@ fn is_joined(left: &Piece<'_>, right: &Piece<'_>) -> bool
         || is_mark(right, b")")
         || is_mark(right, b"(") && is_name(left) && !is_word(left, b"IN")
         || is_mark(left, b"-") && is_number(right)
-}
-
-fn push_doubled(out: &mut Vec<u8>, text: &[u8]) -> Result<(), AllocError>
-    ensures { OnOk result (out.new.items ≡ out.old.items ++ flat_map doubled text.now) }
-{
-    for byte in text {
-        if *byte == b'\'' {
-            out.push(b'\'')?;
-        }
-        out.push(*byte)?;
-    }
-    Ok(())
 }
 
 fn push_quoted(out: &mut Vec<u8>, text: &[u8]) -> Result<(), AllocError>
