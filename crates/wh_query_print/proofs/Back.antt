@@ -1,12 +1,12 @@
 -- What is written reads back, and what reads can be written.
-use Rattle.std.proofs.Common.{◌≡◌, ℕ, List, [], ◌∷◌, ◌++◌, refl, ap, sym, ◌∙◌, map, subst, Option, Some, None, Result, Ok, Err}
+use Rattle.std.proofs.Common.{◌≡◌, ℕ, List, [], ◌∷◌, refl, ap, sym, ◌∙◌, map, subst, Option, Some, None, Result, Ok, Err}
 use Rattle.wh_base.specs.Lists.{is_empty, option_case, where_true}
 use Rattle.wh_base.specs.declared.queries.RawQuery.{RawQuery}
 use Rattle.wh_lex.specs.Lex.{tokens_of}
 use Rattle.wh_lex.specs.declared.lex.LexFault.{LexFault}
 use Rattle.wh_lex.specs.declared.token.Token.{Token}
 use Rattle.def_grammar.specs.Canonical.{laid, query_text, query_tokens}
-use Rattle.def_grammar.specs.Forms.{text_tokens, tokens_or_none}
+use Rattle.def_grammar.specs.Forms.{tokens_or_none}
 use Rattle.def_grammar.specs.Query.{select}
 use Rattle.def_grammar.specs.Reading.{whole}
 use Rattle.def_grammar.specs.Written.{Each, IsSpelled, IsWritten, ReadsAs}

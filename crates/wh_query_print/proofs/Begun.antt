@@ -1,13 +1,13 @@
 -- Rules that don't read what stands next, and lists that read back.
-use Rattle.std.proofs.Common.{◌≡◌, ℕ, ◌+◌, ◌<◌, ◌≤◌, suc, zero, List, [], ◌∷◌, ◌++◌, length, refl, ap, sym, ◌∙◌, append_assoc, arith, true, false, Bool, ◌&&◌, ◌||◌, cond, subst, Option, Some, None}
+use Rattle.std.proofs.Common.{◌≡◌, ℕ, ◌<◌, ◌≤◌, suc, zero, List, [], ◌∷◌, ◌++◌, length, refl, sym, append_assoc, arith, true, false, Bool, ◌||◌, subst, Option, Some, None}
 use Rattle.std.proofs.lemmas.List.{length-append}
 use Rattle.std.proofs.lemmas.Slice.Eq.{bytes_eq-Decides}
-use Rattle.std.specs.Prelude.{codes, flat_map, not, option_map, unwrap_or}
-use Rattle.wh_base.specs.Lists.{has_text, option_case, same_text, where_true}
+use Rattle.std.specs.Prelude.{flat_map}
+use Rattle.wh_base.specs.Lists.{has_text, same_text}
 use Rattle.wh_lex.specs.declared.token.Token.{Token}
 use Rattle.wh_lex.specs.declared.token.TokenKind.TheVariants as kinds
-use Rattle.def_grammar.specs.Canonical.{bare, clause_tokens, listed_tokens, more_tokens, named}
-use Rattle.def_grammar.specs.Reading.{Rule, gives, is_name, many, many_times, mapped, mark, maybe, name, optional_list, or_else, reserved, word, ◌>>=◌, ◌>>◌, ◌or◌}
+use Rattle.def_grammar.specs.Canonical.{bare, clause_tokens, listed_tokens}
+use Rattle.def_grammar.specs.Reading.{Rule, gives, many, many_times, mapped, mark, maybe, name, optional_list, reserved, word, ◌>>=◌, ◌>>◌, ◌or◌}
 use Rattle.def_grammar.specs.Written.{Each, EachOfSome}
 use Rattle.wh_query_print.proofs.Marks.{among}
 

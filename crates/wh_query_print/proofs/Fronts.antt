@@ -1,23 +1,18 @@
 -- What stands at the front of a text that begins with a token as it is written.
-use Rattle.std.proofs.Common.{◌≡◌, ℕ, ◌+◌, ◌-◌, ◌<◌, ◌≤◌, suc, zero, List, [], ◌∷◌, ◌++◌, length, get_or, drop, refl, ap, sym, ◌∙◌, append_assoc, arith, Option, Some, None, cond, true, false, Bool, ◌&&◌, ◌||◌, map, take}
+use Rattle.std.proofs.Common.{◌≡◌, ℕ, ◌+◌, suc, List, [], ◌∷◌, ◌++◌, length, get_or, refl, ap, sym, ◌∙◌, append_assoc, arith, Some, cond, true, false, Bool, ◌&&◌, map}
 use Rattle.std.proofs.Math.Seq.{take-append_seam}
 use Rattle.std.proofs.lemmas.Bool.Decides.{nat_tests}
 use Rattle.std.proofs.lemmas.List.{length-append}
 use Rattle.std.proofs.lemmas.List.Sums.{take_while-cons}
 use Rattle.std.specs.Char.{is_ascii_alphabetic, is_ascii_digit, to_ascii_uppercase}
-use Rattle.std.specs.List.{list_all, list_any}
-use Rattle.std.specs.Prelude.{codes, flat_map, nat_lt, not, take_while, ◌==◌}
-use Rattle.wh_base.specs.Lists.{has_text, same_text}
-use Rattle.wh_lex.specs.Tokens.{digits_len, front_of, is_name_byte, mark_len, mark_part, name_len, name_part, number_part, part_of, run_part, start_of, text_more, text_of, text_part}
-use Rattle.wh_lex.specs.declared.front.Front.{Front}
+use Rattle.std.specs.List.{list_all}
+use Rattle.std.specs.Prelude.{flat_map, nat_lt, not, take_while, ◌==◌}
+use Rattle.wh_lex.specs.Tokens.{front_of, is_name_byte, name_part, number_part, start_of, text_more, text_of}
 use Rattle.wh_lex.specs.declared.front.Front.TheVariants as front
-use Rattle.wh_lex.specs.declared.front.Start.{Start}
 use Rattle.wh_lex.specs.declared.front.Start.TheVariants as starts
-use Rattle.wh_lex.specs.declared.token.TokenKind.{TokenKind}
 use Rattle.wh_lex.specs.declared.token.TokenKind.TheVariants as kinds
 use Rattle.def_grammar.specs.Reading.{doubled}
-use Rattle.def_grammar.specs.Canonical.{quoted_text}
-use Rattle.def_grammar.specs.Written.{is_folded, is_identifier, is_line, is_numeral, marks}
+use Rattle.def_grammar.specs.Written.{is_folded, is_identifier, is_line, is_numeral}
 
 -- the text begins with such a byte
 abbrev pub begins : (ℕ → Bool) → List ℕ → Bool

@@ -1,5 +1,5 @@
 -- Tokens that are laid out as a text are the tokens of the text.
-use Rattle.std.proofs.Common.{◌≡◌, ℕ, ◌+◌, ◌<◌, suc, zero, List, [], ◌∷◌, ◌++◌, length, get_or, refl, ap, sym, ◌∙◌, append_assoc, arith, true, false, Bool, ◌&&◌, ◌||◌, cond, map, subst, Result, Ok, Err, Option, Some, ◌⊎◌, inl, inr}
+use Rattle.std.proofs.Common.{◌≡◌, ℕ, ◌+◌, suc, List, [], ◌∷◌, ◌++◌, length, refl, ap, sym, ◌∙◌, append_assoc, arith, true, false, Bool, ◌&&◌, ◌||◌, cond, map, subst, Result, Ok, Err, ◌⊎◌, inl, inr}
 use Rattle.std.proofs.lemmas.Bool.Decides.{nat_tests}
 use Rattle.std.proofs.lemmas.List.{length-append}
 use Rattle.std.specs.Char.{is_ascii_digit}
@@ -7,16 +7,15 @@ use Rattle.std.specs.List.{list_all}
 use Rattle.std.specs.Prelude.{codes, flat_map, nat_lt, not, ◌==◌}
 use Rattle.wh_base.specs.Lists.{has_text, same_text}
 use Rattle.wh_lex.specs.Lex.{after, tokens_from, tokens_of, with_front}
-use Rattle.wh_lex.specs.Tokens.{front_of, is_name_byte, part_of, start_of, text_of, text_part}
-use Rattle.wh_lex.specs.declared.front.Front.{Front}
+use Rattle.wh_lex.specs.Tokens.{front_of, is_name_byte, text_part}
 use Rattle.wh_lex.specs.declared.front.Front.TheVariants as front
 use Rattle.wh_lex.specs.declared.lex.LexFault.{LexFault}
 use Rattle.wh_lex.specs.declared.token.Token.{Token}
 use Rattle.wh_lex.specs.declared.token.TokenKind.{TokenKind}
 use Rattle.wh_lex.specs.declared.token.TokenKind.TheVariants as kinds
-use Rattle.def_grammar.specs.Canonical.{bare, gap, is_call, is_closing, is_joined, is_negative, is_opening, laid, laid_behind, quoted_text, written_token}
+use Rattle.def_grammar.specs.Canonical.{bare, is_call, is_closing, is_joined, is_negative, is_opening, laid, laid_behind, quoted_text, written_token}
 use Rattle.def_grammar.specs.Reading.{doubled, is_token, same_token_kind}
-use Rattle.def_grammar.specs.Written.{Each, IsSpelled, is_identifier, is_line, is_numeral, is_spelling, marks}
+use Rattle.def_grammar.specs.Written.{Each, IsSpelled, is_line, is_numeral, is_spelling}
 use Rattle.wh_query_print.proofs.Fronts.{and_first, and_later, begins, front-name, front-number, quoted-text}
 use Rattle.wh_query_print.proofs.Marks.{front-mark, goes_on, open_marks, same-text}
 

@@ -1,6 +1,6 @@
 -- The tokens of what can be written are tokens that a text may have.
-use Rattle.std.proofs.Common.{◌≡◌, ℕ, ◌<◌, ◌^◌, suc, List, [], ◌∷◌, ◌++◌, refl, ap, true, Bool, false, map, subst, Option, Some, None}
-use Rattle.std.specs.Prelude.{codes, decimal, flat_map, negsuc, pos, ℤ}
+use Rattle.std.proofs.Common.{◌≡◌, ℕ, suc, List, [], ◌∷◌, ◌++◌, refl, true, Bool, false, Option, Some, None}
+use Rattle.std.specs.Prelude.{codes, flat_map, negsuc, pos, ℤ}
 use Rattle.wh_base.specs.declared.queries.ColName.{ColName}
 use Rattle.wh_base.specs.declared.queries.NamePart.{NamePart}
 use Rattle.wh_base.specs.declared.queries.NamePart.TheVariants.{MarkName, Plain, RowIdName}

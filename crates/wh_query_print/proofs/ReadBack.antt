@@ -1,8 +1,7 @@
 -- Each rule of a query reads back the tokens of what can be written.
-use Rattle.std.proofs.Common.{◌≡◌, ℕ, ◌+◌, ◌<◌, ◌≤◌, ◌^◌, suc, zero, List, [], ◌∷◌, ◌++◌, length, refl, ap, sym, ◌∙◌, append_assoc, arith, true, false, Bool, ◌&&◌, ◌||◌, cond, subst, Option, Some, None}
-use Rattle.std.specs.Prelude.{codes, decimal, flat_map, neg_ℤ, negsuc, not, option_map, pos, unwrap_or, ℤ}
-use Rattle.wh_base.specs.Lists.{has_text, option_case, same_text, where_true}
-use Rattle.wh_base.specs.Values.{digits_number}
+use Rattle.std.proofs.Common.{◌≡◌, ℕ, ◌<◌, ◌^◌, suc, List, ◌∷◌, ◌++◌, refl, sym, append_assoc, true, false, Bool, ◌||◌, subst, Option, Some, None}
+use Rattle.std.specs.Prelude.{codes, decimal, neg_ℤ, negsuc, pos, ℤ}
+use Rattle.wh_base.specs.Lists.{has_text, same_text}
 use Rattle.wh_base.specs.declared.queries.ColName.{ColName}
 use Rattle.wh_base.specs.declared.queries.NamePart.{NamePart}
 use Rattle.wh_base.specs.declared.queries.NamePart.TheVariants.{MarkName, Plain, RowIdName}
@@ -13,12 +12,9 @@ use Rattle.wh_base.specs.declared.queries.RawCondition.TheVariants as raw
 use Rattle.wh_base.specs.declared.queries.RawExpr.{RawExpr}
 use Rattle.wh_base.specs.declared.queries.RawExpr.TheVariants.{Column, Constant, Times}
 use Rattle.wh_base.specs.declared.queries.RawItem.{RawItem}
-use Rattle.wh_base.specs.declared.queries.RawJoin.{RawJoin}
 use Rattle.wh_base.specs.declared.queries.RawKey.{RawKey}
 use Rattle.wh_base.specs.declared.queries.RawOrder.{RawOrder}
 use Rattle.wh_base.specs.declared.queries.RawOrder.TheVariants as order
-use Rattle.wh_base.specs.declared.queries.RawQuery.{RawQuery}
-use Rattle.wh_base.specs.declared.queries.RawTable.{RawTable}
 use Rattle.wh_base.specs.declared.queries.RawTest.{RawTest}
 use Rattle.wh_base.specs.declared.queries.RawWhat.{RawWhat}
 use Rattle.wh_base.specs.declared.queries.RawWhat.TheVariants as what
@@ -28,11 +24,11 @@ use Rattle.wh_base.specs.declared.values.Op.{Op}
 use Rattle.wh_base.specs.declared.values.Op.TheVariants.{Eq, Ge, Gt, Le, Lt, Ne}
 use Rattle.wh_lex.specs.declared.token.Token.{Token}
 use Rattle.wh_lex.specs.declared.token.TokenKind.TheVariants as kinds
-use Rattle.def_grammar.specs.Canonical.{aggregate_tokens, alias_tokens, bare, call_tokens, column_tokens, comma, condition_column, condition_tail_tokens, condition_tokens, direction_tokens, expression_tokens, item_tokens, joined_tokens, key_tokens, listed_tokens, literal_tokens, marked, named, numbered, op_text, order_tokens, part_tokens, qualifier_tokens, signed_tokens, table_alias_tokens, table_tokens, test_tokens, what_tokens}
-use Rattle.def_grammar.specs.Query.{aggregate, aggregate_of, alias, all_of, as_of, column, column_named_by, condition, condition_on, expression, from_tables, item, join, joined_table, literal, marker, on_join, op_of, operator, order_key, plain_name, product_or_column, qualifier, rowid_as, select, signed, table, table_with, test, where_conditions}
-use Rattle.def_grammar.specs.Reading.{Rule, bracketed, gives, is_name, listed, many, mapped, mark, maybe, name, number, optional_list, or_else, quoted, reserved, same_token_kind, token_where, word, ◌>>=◌, ◌>>◌, ◌or◌}
-use Rattle.def_grammar.specs.Written.{AreTables, Each, EachOfSome, IfThere, IsAggregate, IsColumn, IsCondition, IsExpression, IsItem, IsJoin, IsKey, IsLiteral, IsName, IsNamePart, IsOrder, IsSigned, IsTable, IsTest, IsUnsigned, IsWhat, IsWritten}
-use Rattle.wh_query_print.proofs.Begun.{Parts, bind-some, bind-none, mapped-some, mapped-none, maybe-none, maybe-some, or-first, or-second, parted, parted-read, then-none, then-some}
+use Rattle.def_grammar.specs.Canonical.{aggregate_tokens, alias_tokens, bare, column_tokens, comma, condition_column, condition_tail_tokens, condition_tokens, direction_tokens, expression_tokens, item_tokens, key_tokens, listed_tokens, literal_tokens, marked, named, numbered, op_text, order_tokens, part_tokens, qualifier_tokens, signed_tokens, test_tokens, what_tokens}
+use Rattle.def_grammar.specs.Query.{aggregate, aggregate_of, alias, column, column_named_by, condition, condition_on, expression, item, literal, marker, operator, order_key, plain_name, qualifier, rowid_as, signed, test}
+use Rattle.def_grammar.specs.Reading.{Rule, bracketed, gives, listed, mapped, mark, name, number, reserved, word, ◌>>=◌, ◌>>◌, ◌or◌}
+use Rattle.def_grammar.specs.Written.{EachOfSome, IfThere, IsAggregate, IsColumn, IsCondition, IsExpression, IsItem, IsKey, IsLiteral, IsName, IsNamePart, IsOrder, IsSigned, IsTest, IsWhat}
+use Rattle.wh_query_print.proofs.Begun.{Parts, bind-some, bind-none, mapped-some, mapped-none, or-first, or-second, parted-read, then-none}
 use Rattle.wh_query_print.proofs.Decimal.{number-decimal}
 use Rattle.wh_query_print.proofs.Marks.{same-text}
 

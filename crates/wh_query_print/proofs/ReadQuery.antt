@@ -1,36 +1,21 @@
 -- The whole of a query reads back from its tokens.
-use Rattle.std.proofs.Common.{◌≡◌, ℕ, ◌+◌, ◌<◌, ◌≤◌, ◌^◌, suc, zero, List, [], ◌∷◌, ◌++◌, length, refl, ap, sym, ◌∙◌, append_assoc, append-nil, arith, true, false, Bool, ◌&&◌, ◌||◌, cond, subst, Option, Some, None}
+use Rattle.std.proofs.Common.{◌≡◌, ℕ, ◌<◌, List, [], ◌∷◌, ◌++◌, length, refl, ap, sym, ◌∙◌, append_assoc, append-nil, arith, true, false, Bool, ◌||◌, subst, Option, Some, None}
 use Rattle.std.specs.Prelude.{codes, flat_map, negsuc, pos, ℤ}
 use Rattle.wh_base.specs.Lists.{has_text, same_text}
 use Rattle.wh_base.specs.declared.queries.ColName.{ColName}
-use Rattle.wh_base.specs.declared.queries.NamePart.{NamePart}
-use Rattle.wh_base.specs.declared.queries.NamePart.TheVariants.{MarkName, Plain, RowIdName}
-use Rattle.wh_base.specs.declared.queries.RawAgg.{RawAgg}
-use Rattle.wh_base.specs.declared.queries.RawAgg.TheVariants.{AvgOf, CountOf, CountRows, MaxOf, MinOf, SumOf}
 use Rattle.wh_base.specs.declared.queries.RawCondition.{RawCondition}
-use Rattle.wh_base.specs.declared.queries.RawCondition.TheVariants as raw
-use Rattle.wh_base.specs.declared.queries.RawExpr.{RawExpr}
-use Rattle.wh_base.specs.declared.queries.RawExpr.TheVariants.{Column, Constant, Times}
 use Rattle.wh_base.specs.declared.queries.RawItem.{RawItem}
 use Rattle.wh_base.specs.declared.queries.RawJoin.{RawJoin}
 use Rattle.wh_base.specs.declared.queries.RawKey.{RawKey}
-use Rattle.wh_base.specs.declared.queries.RawOrder.{RawOrder}
-use Rattle.wh_base.specs.declared.queries.RawOrder.TheVariants as order
 use Rattle.wh_base.specs.declared.queries.RawQuery.{RawQuery}
 use Rattle.wh_base.specs.declared.queries.RawTable.{RawTable}
 use Rattle.wh_base.specs.declared.queries.RawTest.{RawTest}
-use Rattle.wh_base.specs.declared.queries.RawWhat.{RawWhat}
-use Rattle.wh_base.specs.declared.queries.RawWhat.TheVariants as what
-use Rattle.wh_base.specs.declared.values.Literal.{Literal}
-use Rattle.wh_base.specs.declared.values.Literal.TheVariants.{Number, Quoted}
-use Rattle.wh_base.specs.declared.values.Op.{Op}
-use Rattle.wh_base.specs.declared.values.Op.TheVariants.{Eq, Ge, Gt, Le, Lt, Ne}
 use Rattle.wh_lex.specs.declared.token.Token.{Token}
 use Rattle.wh_lex.specs.declared.token.TokenKind.TheVariants as kinds
-use Rattle.def_grammar.specs.Canonical.{another_table_tokens, as_of_tokens, bare, clause_tokens, column_tokens, comma, condition_tokens, from_tokens, group_tokens, having_tokens, item_tokens, joined_tokens, key_tokens, listed_tokens, marked, named, numbered, order_by_tokens, query_tokens, table_alias_tokens, table_tokens, test_tokens, where_tokens}
+use Rattle.def_grammar.specs.Canonical.{another_table_tokens, as_of_tokens, bare, column_tokens, comma, condition_tokens, from_tokens, group_tokens, having_tokens, item_tokens, joined_tokens, key_tokens, listed_tokens, marked, named, order_by_tokens, query_tokens, table_alias_tokens, table_tokens, test_tokens, where_tokens}
 use Rattle.def_grammar.specs.Query.{all_of, as_of, column, condition, from_tables, item, join, joined_table, on_join, order_key, select, table, table_with, test, where_conditions}
 use Rattle.def_grammar.specs.Reading.{Rule, bracketed, gives, listed, many, mapped, mark, maybe, name, number, optional_list, word, ◌>>=◌, ◌>>◌, ◌or◌}
-use Rattle.def_grammar.specs.Written.{AreTables, Each, EachOfSome, IfThere, IsColumn, IsCondition, IsItem, IsJoin, IsKey, IsName, IsTable, IsTest, IsUnsigned, IsWritten}
+use Rattle.def_grammar.specs.Written.{AreTables, Each, IfThere, IsColumn, IsCondition, IsItem, IsJoin, IsKey, IsName, IsTable, IsTest, IsUnsigned, IsWritten}
 use Rattle.wh_query_print.proofs.Begun.{Begun, Parts, begun-clause, begun-mark, begun-name, begun-word, bind-none, bind-some, many-read, mapped-none, mapped-some, maybe-none, maybe-some, optional-none, optional-some, or-first, or-second, parted-read, then-none, then-some}
 use Rattle.wh_query_print.proofs.ReadBack.{AfterColumn, AfterItem, AfterKey, column-head, column-read, condition-read, item-read, key-read, name-read, no-mark, test-read, unsigned-read}
 

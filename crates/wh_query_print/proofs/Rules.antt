@@ -1,9 +1,6 @@
 -- What each rule of a query gives can be written.
-use Rattle.std.proofs.Common.{◌≡◌, ℕ, ◌+◌, ◌*◌, ◌<◌, ◌≤◌, ◌^◌, suc, zero, List, [], ◌∷◌, ◌++◌, length, refl, ap, sym, ◌∙◌, arith, true, false, Bool, ◌&&◌, cond, map, subst, Option, Some, None}
-use Rattle.std.proofs.Math.Nat.{pow-le-pow_right}
+use Rattle.std.proofs.Common.{◌≡◌, ℕ, ◌<◌, ◌^◌, suc, zero, List, [], ◌∷◌, ◌++◌, length, refl, arith, true, false, Bool, ◌&&◌, map, Option, Some, None}
 use Rattle.std.proofs.lemmas.Bool.Decides.{nat_tests}
-use Rattle.std.specs.Char.{is_ascii_digit}
-use Rattle.std.specs.List.{list_all}
 use Rattle.std.specs.Prelude.{codes, nat_lt, neg_ℤ, not, option_map, pos, unwrap_or, ℤ}
 use Rattle.wh_base.specs.Lists.{has_text, option_case, where_true}
 use Rattle.wh_base.specs.Values.{digits_number}
@@ -15,7 +12,7 @@ use Rattle.wh_base.specs.declared.queries.RawAgg.TheVariants.{AvgOf, CountOf, Co
 use Rattle.wh_base.specs.declared.queries.RawCondition.{RawCondition}
 use Rattle.wh_base.specs.declared.queries.RawCondition.TheVariants as raw
 use Rattle.wh_base.specs.declared.queries.RawExpr.{RawExpr}
-use Rattle.wh_base.specs.declared.queries.RawExpr.TheVariants.{Column, Constant, Times}
+use Rattle.wh_base.specs.declared.queries.RawExpr.TheVariants.{Constant}
 use Rattle.wh_base.specs.declared.queries.RawItem.{RawItem}
 use Rattle.wh_base.specs.declared.queries.RawJoin.{RawJoin}
 use Rattle.wh_base.specs.declared.queries.RawKey.{RawKey}
@@ -34,12 +31,12 @@ use Rattle.wh_lex.specs.declared.token.Token.{Token}
 use Rattle.wh_lex.specs.declared.token.TokenKind.{TokenKind}
 use Rattle.wh_lex.specs.declared.token.TokenKind.TheVariants as kinds
 use Rattle.def_grammar.specs.Query.{aggregate, aggregate_of, alias, all_of, as_of, column, column_named_by, condition, condition_on, expression, from_tables, item, join, joined_table, literal, marker, on_join, op_of, operator, order_key, plain_name, product_or_column, qualifier, rowid_as, select, signed, table, table_with, test, where_conditions}
-use Rattle.def_grammar.specs.Reading.{Rule, bracketed, gives, is_name, listed, many, mapped, mark, maybe, name, number, optional_list, quoted, reserved, same_token_kind, token_where, word, ◌>>=◌, ◌>>◌, ◌or◌}
-use Rattle.def_grammar.specs.Written.{AreTables, Each, EachOfSome, IfThere, IsAggregate, IsColumn, IsCondition, IsExpression, IsItem, IsJoin, IsKey, IsLiteral, IsName, IsNamePart, IsOrder, IsSigned, IsSpelled, IsTable, IsTest, IsUnsigned, IsWhat, IsWritten, is_identifier, is_line, is_numeral, is_spelling}
+use Rattle.def_grammar.specs.Reading.{Rule, bracketed, gives, is_name, listed, many, mapped, mark, maybe, name, number, optional_list, quoted, reserved, same_token_kind, word, ◌>>=◌, ◌>>◌, ◌or◌}
+use Rattle.def_grammar.specs.Written.{AreTables, Each, EachOfSome, IfThere, IsAggregate, IsColumn, IsCondition, IsExpression, IsItem, IsJoin, IsKey, IsLiteral, IsName, IsNamePart, IsOrder, IsSigned, IsSpelled, IsTable, IsTest, IsUnsigned, IsWhat, IsWritten, is_line, is_numeral, is_spelling}
 use Rattle.wh_lex.proofs.Numbers.{front_fits}
-use Rattle.wh_query_print.proofs.Fronts.{and_first, and_later, front-number}
+use Rattle.wh_query_print.proofs.Fronts.{front-number}
 use Rattle.wh_query_print.proofs.Laid.{unplaced}
-use Rattle.wh_query_print.proofs.Sound.{Alike, Along, Blind, Sound, bind-sound, blind-of, bracketed-sound, const-sound, gives-sound, listed-sound, many-sound, mapped-sound, mark-blind, maybe-blind, maybe-sound, optional-sound, or-sound, then-blind, then-sound, word-blind}
+use Rattle.wh_query_print.proofs.Sound.{Alike, Along, Blind, Sound, bind-sound, bracketed-sound, const-sound, gives-sound, listed-sound, many-sound, mapped-sound, mark-blind, maybe-blind, maybe-sound, optional-sound, or-sound, then-blind, then-sound, word-blind}
 
 -- ---- names, numbers and texts
 

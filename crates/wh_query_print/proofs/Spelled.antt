@@ -1,24 +1,23 @@
 -- Each token of a text has a text that a token may have.
-use Rattle.std.proofs.Common.{◌≡◌, ℕ, ◌+◌, ◌<◌, suc, zero, List, [], ◌∷◌, ◌++◌, length, get_or, refl, ap, sym, ◌∙◌, arith, true, false, Bool, ◌&&◌, ◌||◌, cond, drop, map, take, subst, Result, Ok, Err, Option, Some, None, ◌⊎◌, inl, inr}
+use Rattle.std.proofs.Common.{◌≡◌, ℕ, ◌+◌, suc, zero, List, [], ◌∷◌, length, get_or, refl, ap, sym, arith, true, false, Bool, ◌&&◌, ◌||◌, cond, drop, map, take, subst, Result, Ok, Err, Option, Some, None, inl, inr}
 use Rattle.std.proofs.lemmas.Bool.Decides.{nat_tests}
 use Rattle.std.proofs.lemmas.List.{length-map}
 use Rattle.std.proofs.lemmas.List.Sums.{take_while-cons}
 use Rattle.std.specs.Char.{is_ascii_alphabetic, is_ascii_digit, to_ascii_uppercase}
-use Rattle.std.specs.List.{list_all, list_any}
-use Rattle.std.specs.Prelude.{codes, if◌then◌else◌, nat_lt, not, take_while, ◌==◌}
-use Rattle.wh_base.specs.Lists.{has_text, same_text}
+use Rattle.std.specs.List.{list_all}
+use Rattle.std.specs.Prelude.{if◌then◌else◌, nat_lt, take_while, ◌==◌}
+use Rattle.wh_base.specs.Lists.{has_text}
 use Rattle.wh_lex.specs.Lex.{after, closed_by, in_statement, is_semicolon, statement_at, statement_from, token_at, tokens_from, tokens_of, with_front, with_tokens}
-use Rattle.wh_lex.specs.Tokens.{digits_len, front_of, is_name_byte, is_single, mark_len, mark_part, name_len, name_part, number_part, part_of, run_part, start_of, text_more, text_of, text_part}
+use Rattle.wh_lex.specs.Tokens.{front_of, is_name_byte, is_single, mark_part, name_part, number_part, part_of, text_more, text_of, text_part}
 use Rattle.wh_lex.specs.declared.front.Front.{Front}
 use Rattle.wh_lex.specs.declared.front.Front.TheVariants as front
-use Rattle.wh_lex.specs.declared.front.Start.{Start}
 use Rattle.wh_lex.specs.declared.front.Start.TheVariants as starts
 use Rattle.wh_lex.specs.declared.lex.LexFault.{LexFault}
 use Rattle.wh_lex.specs.declared.lex.StatementTokens.{StatementTokens}
 use Rattle.wh_lex.specs.declared.token.Token.{Token}
 use Rattle.wh_lex.specs.declared.token.TokenKind.{TokenKind}
 use Rattle.wh_lex.specs.declared.token.TokenKind.TheVariants as kinds
-use Rattle.def_grammar.specs.Written.{Each, IsSpelled, is_folded, is_identifier, is_line, is_numeral, is_spelling, marks}
+use Rattle.def_grammar.specs.Written.{Each, IsSpelled, is_folded, is_line, is_spelling, marks}
 use Rattle.wh_query_print.proofs.Laid.{or-cases}
 
 -- what stands at the front, where it is a token, has such a text
