@@ -1,4 +1,8 @@
 pub mod Ends
-pub mod Names
-pub mod Utf8
-pub mod Pieces
+pub mod Spaces
+pub mod Counts
+pub mod Numbers
+pub mod Records
+pub mod Drafts
+pub mod Lasts
+pub mod Orders

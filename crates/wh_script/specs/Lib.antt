@@ -1,1 +1,3 @@
-pub mod Reading
+pub mod Sections
+pub mod Drafts
+pub mod Pieces
