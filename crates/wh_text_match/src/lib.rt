@@ -1,0 +1,8 @@
+//! Whether the text of a query is the text of a view's definition.
+#![tactic(auto)]
+
+mod matching;
+#[cfg(test)]
+mod tests;
+
+pub use matching::{TextMatch, match_text};
