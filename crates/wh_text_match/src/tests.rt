@@ -1,6 +1,16 @@
 use crate::{TextMatch, match_text};
+use std::alloc::Global;
 use std::test::Fail;
-use wh_lex::lex::tokens;
+use wh_base::seq::Seq;
+use wh_lex::lex::{LexFault, tokens};
+use wh_lex::token::Token;
+
+fn lexed(alloc: Global, text: &str) -> Result<Seq<Token>, LexFault> {
+    if text.len() > 100 {
+        return Err(LexFault::Memory);
+    }
+    tokens(alloc, text)
+}
 
 /// Texts of a query and of a view, and how they match.
 #[test]
@@ -21,7 +31,7 @@ fn texts(rt: HostRuntime) -> Result<(), Fail> {
         ("SELECT G, SUM(A) FROM T GROUP BY G, A", TextMatch::None),
         ("SELECT 'g' FROM T", TextMatch::None),
     ] {
-        let found = match (tokens(alloc, query), tokens(alloc, view)) {
+        let found = match (lexed(alloc, query), lexed(alloc, view)) {
             (Ok(query), Ok(view)) => match_text(query.as_slice(), view.as_slice()),
             _ => TextMatch::None,
         };
