@@ -1,4 +1,4 @@
-use Rattle.std.proofs.Common.{◌≡◌, ◌∙◌, ap, drop}
+use Rattle.std.proofs.Common.{◌∙◌, ap, drop}
 use Rattle.wh_text_match.proofs.Fronts.{rest-is}
 use Rattle.wh_text_match.proofs.matching.from_on.Goals as goal
 
