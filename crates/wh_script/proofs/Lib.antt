@@ -6,3 +6,6 @@ pub mod Records
 pub mod Drafts
 pub mod Lasts
 pub mod Orders
+pub mod LineRuns
+pub mod LoadLines
+pub mod Behind

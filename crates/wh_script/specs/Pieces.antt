@@ -1,7 +1,9 @@
 -- The lines of a script's bytes by their lengths, and what it means that elements of a script were taken.
 use Rattle.def_built.specs.Form.{draft_is_built}
-use Rattle.def_grammar.specs.Script.{Draft, Element, Outcome, read_from}
-use Rattle.std.specs.Prelude.{Bool, Err, List, Ok, Result, [], cond, suc, ℕ, ◌&&◌, ◌++◌, ◌==◌, ◌∷◌, ◌≡◌}
+use Rattle.def_grammar.specs.Lines.{InText, Line, LoadBlock, Piece, content_of, pieces_from, placed_lines, raw_lines}
+use Rattle.def_grammar.specs.Script.{Draft, Element, Outcome, finish, is_white, line_at, piece_elements, read_from}
+use Rattle.std.specs.Prelude.{Bool, Err, List, Ok, Result, [], codes, cond, drop, false, flat_map, length, suc, take, true, ℕ, ◌&&◌, ◌||◌, ◌++◌, ◌+◌, ◌==◌, ◌∷◌, ◌≡◌}
+use Rattle.wh_base.specs.Lists.{same_text}
 use Rattle.wh_script.specs.declared.fault.ScriptFault.{ScriptFault}
 use Rattle.wh_script.specs.declared.fault.ScriptFault.TheVariants as faults
 use Rattle.wh_script.specs.declared.script.ReadScript.{ReadScript}
@@ -15,6 +17,76 @@ text_len starts (b ∷ bs) = cond (starts && (b == 64)) 0 (suc (text_len (b == 1
 abbrev pub line_len : List ℕ → ℕ
 line_len [] = 0
 line_len (b ∷ bs) = cond (b == 10) 1 (suc (line_len bs))
+
+-- the line closes a LOAD block
+abbrev pub is_closing : List ℕ → Bool
+is_closing raw = same_text (content_of raw) (codes "@endload")
+
+-- how many bytes stand on the lines before the first that closes a LOAD block
+abbrev pub block_len : List (List ℕ) → ℕ
+block_len [] = 0
+block_len (l ∷ ls) = cond (is_closing l) 0 (length l + block_len ls)
+
+-- ---- what is left of a script from the line on that starts at a place
+
+abbrev pub lines_at : List ℕ → ℕ → List Line
+lines_at bytes place = placed_lines (line_at bytes place) place (raw_lines (drop place bytes))
+
+-- the first of these lines
+abbrev pub line_of : List ℕ → ℕ → Line
+line_of bytes place =
+    record { number = line_at bytes place; place = place; raw = take (line_len (drop place bytes)) (drop place bytes) }
+
+-- the place behind that line
+abbrev pub behind_line : List ℕ → ℕ → ℕ
+behind_line bytes place = place + line_len (drop place bytes)
+
+abbrev pub pieces_at : List ℕ → ℕ → List Piece
+pieces_at bytes place = pieces_from (lines_at bytes place) InText
+
+-- the elements, where the first `valid` bytes are UTF-8
+unfoldable pub elements_left : List ℕ → ℕ → ℕ → List Element
+elements_left bytes valid place = flat_map (piece_elements valid) (pieces_at bytes place)
+
+-- ---- LOAD blocks by their lines
+
+-- the lines before the first that closes a block, whether there is one, and the lines behind it
+abbrev pub before_closing : List Line → List Line
+before_closing [] = []
+before_closing (l ∷ ls) = cond (is_closing l.raw) [] (l ∷ before_closing ls)
+
+abbrev pub is_closed : List Line → Bool
+is_closed [] = false
+is_closed (l ∷ ls) = cond (is_closing l.raw) true (is_closed ls)
+
+abbrev pub behind_closing : List Line → List Line
+behind_closing [] = []
+behind_closing (l ∷ ls) = cond (is_closing l.raw) ls (behind_closing ls)
+
+-- the block of this name whose `@load` is on the line that starts at this place
+abbrev pub load_block : List ℕ → ℕ → List ℕ → Piece
+load_block bytes place name =
+    let ls = lines_at bytes (behind_line bytes place) in LoadBlock (line_of bytes place) name (before_closing ls) (is_closed ls)
+
+-- how many bytes the block has whose lines begin at this place
+abbrev pub block_at : List ℕ → ℕ → ℕ
+block_at bytes place = block_len (raw_lines (drop place bytes))
+
+-- the place behind the block whose lines begin at this one
+abbrev pub behind_block : List ℕ → ℕ → ℕ
+behind_block bytes place = behind_line bytes (place + block_at bytes place)
+
+-- ---- behind the end
+
+-- the byte is white space before this one
+abbrev pub is_white_before : ℕ → ℕ → Bool
+is_white_before b next = is_white b || ((b == 13) && (next == 10))
+
+-- the script and the place behind it are what the draft makes
+abbrev pub IsFinished : Draft → ℕ → ReadScript → Type 0
+IsFinished d place r = finish d place ≡ (r.script, r.next)
+
+-- ---- what was taken
 
 -- a script that goes on with these elements is read on from the draft that was made of them, or has their fault; want of
 -- memory says nothing

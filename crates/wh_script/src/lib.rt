@@ -8,10 +8,12 @@ pub mod blocks;
 pub mod built;
 pub mod directives;
 pub mod draft;
+mod ending;
 pub mod fault;
 pub mod lines;
 pub mod load;
 pub mod order;
+mod pieces;
 pub mod reading;
 pub mod script;
 #[cfg(test)]
