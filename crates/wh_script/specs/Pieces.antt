@@ -1,7 +1,7 @@
 -- The lines of a script's bytes by their lengths, and what it means that elements of a script were taken.
 use Rattle.def_built.specs.Form.{draft_is_built}
 use Rattle.def_grammar.specs.Lines.{InText, Line, LoadBlock, Piece, content_of, pieces_from, placed_lines, raw_lines}
-use Rattle.def_grammar.specs.Script.{Draft, Element, Outcome, finish, is_white, line_at, piece_elements, read_from}
+use Rattle.def_grammar.specs.Script.{Draft, Element, Outcome, is_white, line_at, piece_elements, read_from}
 use Rattle.std.specs.Prelude.{Bool, Err, List, Ok, Result, [], codes, cond, drop, false, flat_map, length, suc, take, true, ℕ, ◌&&◌, ◌||◌, ◌++◌, ◌+◌, ◌==◌, ◌∷◌, ◌≡◌}
 use Rattle.wh_base.specs.Lists.{same_text}
 use Rattle.wh_script.specs.declared.fault.ScriptFault.{ScriptFault}
@@ -81,10 +81,6 @@ behind_block bytes place = behind_line bytes (place + block_at bytes place)
 -- the byte is white space before this one
 abbrev pub is_white_before : ℕ → ℕ → Bool
 is_white_before b next = is_white b || ((b == 13) && (next == 10))
-
--- the script and the place behind it are what the draft makes
-abbrev pub IsFinished : Draft → ℕ → ReadScript → Type 0
-IsFinished d place r = finish d place ≡ (r.script, r.next)
 
 -- ---- what was taken
 

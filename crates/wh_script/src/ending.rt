@@ -1,9 +1,9 @@
 ghost use Rattle.def_built.specs.Form.{draft_is_built, script_is_built};
 ghost use Rattle.def_grammar.specs.Script.{after_fault, ending, finish, first_black, is_white, no_end, open_fault};
-ghost use Rattle.std.specs.Prelude.{◌≡◌, ◌<◌, ◌≤◌, ◌^◌, ◌∷◌, [], Err, IfOk, IfSome, None, cond, drop, length, slice_index, true};
+ghost use Rattle.std.specs.Prelude.{◌≡◌, ◌<◌, ◌≤◌, ◌^◌, ◌∷◌, [], Err, IfOk, IfSome, None, Ok, cond, drop, length, slice_index, true};
 ghost use Rattle.std.specs.Str.Lossy.{utf8_valid_len};
 ghost use Rattle.wh_base.specs.Lists.{first_some};
-ghost use Rattle.wh_script.specs.Pieces.{GivesScript, IsFinished, is_white_before};
+ghost use Rattle.wh_script.specs.Pieces.{GivesScript, is_white_before};
 
 use crate::draft::Draft;
 use crate::fault::ScriptFault;
@@ -100,7 +100,7 @@ fn end_fault(draft: &Draft, bytes: &[u8], valid: usize, tail: bool, place: usize
 #[tactic(auto, using(crate::proofs::Behind::finishes))]
 fn finish(draft: Draft, alloc: Global, place: usize) -> Result<ReadScript, ScriptFault>
     requires { draft_is_built draft ≡ true }
-    ensures all { IfOk result (IsFinished draft place) }
+    ensures gives { GivesScript result (Ok (finish draft place)) }
     ensures built { IfOk result (λ r. script_is_built r.script ≡ true) }
 {
     let mut draft = draft;
