@@ -9,3 +9,4 @@ pub mod Orders
 pub mod LineRuns
 pub mod LoadLines
 pub mod Behind
+pub mod Walks

@@ -1,11 +1,16 @@
 -- The lines of a script's bytes by their lengths, and what it means that elements of a script were taken.
 use Rattle.def_built.specs.Form.{draft_is_built}
 use Rattle.def_grammar.specs.Lines.{InText, Line, LoadBlock, Piece, content_of, pieces_from, placed_lines, raw_lines}
-use Rattle.def_grammar.specs.Script.{Draft, Element, Outcome, is_white, line_at, piece_elements, read_from}
-use Rattle.std.specs.Prelude.{Bool, Err, List, Ok, Result, [], codes, cond, drop, false, flat_map, length, suc, take, true, ℕ, ◌&&◌, ◌||◌, ◌++◌, ◌+◌, ◌==◌, ◌∷◌, ◌≡◌}
+use Rattle.def_grammar.specs.Script.{Draft, Element, Outcome, ending, is_white, line_at, piece_elements, read_from}
+use Rattle.std.specs.Prelude.{Bool, Err, List, Ok, Result, [], codes, cond, drop, false, flat_map, length, suc, take, true, ℕ, ◌&&◌, ◌||◌, ◌++◌, ◌+◌, ◌==◌, ◌∷◌, ◌≡◌, ◌<◌, ◌≤◌}
 use Rattle.wh_base.specs.Lists.{same_text}
 use Rattle.wh_script.specs.declared.fault.ScriptFault.{ScriptFault}
 use Rattle.wh_script.specs.declared.fault.ScriptFault.TheVariants as faults
+use Rattle.wh_script.specs.declared.lines.Directive as ours
+use Rattle.wh_script.specs.declared.lines.Directive.TheVariants as directives
+use Rattle.wh_script.specs.declared.lines.LineMark.{LineMark}
+use Rattle.wh_script.specs.declared.pieces.Walked.{Walked}
+use Rattle.wh_script.specs.declared.pieces.Walked.TheVariants.{AtEnd, On}
 use Rattle.wh_script.specs.declared.script.ReadScript.{ReadScript}
 
 -- how many bytes stand before the first line that begins with @; `starts` says that a line starts here
@@ -47,6 +52,12 @@ pieces_at bytes place = pieces_from (lines_at bytes place) InText
 -- the elements, where the first `valid` bytes are UTF-8
 unfoldable pub elements_left : List ℕ → ℕ → ℕ → List Element
 elements_left bytes valid place = flat_map (piece_elements valid) (pieces_at bytes place)
+
+-- the directive is a piece by itself
+abbrev pub IsAlone : ours.Directive → Type 0
+IsAlone (directives.Load n) = ⊥
+IsAlone directives.EndScript = ⊥
+IsAlone d = Unit {0}
 
 -- ---- LOAD blocks by their lines
 
@@ -91,6 +102,33 @@ IsTaken bytes d es (Ok e) =
     (tail : Bool) → (rest : List Element) → read_from draft_is_built bytes tail d (es ++ rest) ≡ read_from draft_is_built bytes tail e rest
 IsTaken bytes d es (Err (faults.Bad b)) = (tail : Bool) → (rest : List Element) → read_from draft_is_built bytes tail d (es ++ rest) ≡ Err b
 IsTaken bytes d es (Err faults.Memory) = Unit {0}
+
+-- what is read from a draft on is read from another
+abbrev pub ReadsOn : List ℕ → Draft → List Element → Draft → List Element → Type 0
+ReadsOn bytes d es e fs = (tail : Bool) → read_from draft_is_built bytes tail d es ≡ read_from draft_is_built bytes tail e fs
+
+-- a built draft at this place
+abbrev pub IsAt : List ℕ → ℕ → Draft → LineMark → Type 0
+IsAt bytes place e m = (m.place ≡ place) × (m.line ≡ line_at bytes place) × (draft_is_built e ≡ true)
+
+-- these elements were taken, and the next piece starts at this place
+abbrev pub IsWalked : List ℕ → Draft → List Element → ℕ → Result Walked ScriptFault → Type 0
+IsWalked bytes d es next (Ok (On e m)) = IsTaken bytes d es (Ok e) × IsAt bytes next e m
+IsWalked bytes d es next (Ok (AtEnd e place)) = ⊥
+IsWalked bytes d es next (Err f) = IsTaken bytes d es (Err f)
+
+-- a step of the walk from this place: what is left of the script is read from the draft there on; or the end of the script is
+-- behind that draft; or its fault was found. Want of memory says nothing
+abbrev pub IsStep : List ℕ → ℕ → Draft → ℕ → Result Walked ScriptFault → Type 0
+IsStep bytes valid d place (Ok (On e m)) =
+    ReadsOn bytes d (elements_left bytes valid place) e (elements_left bytes valid m.place)
+    × (place < m.place) × (m.place ≤ length bytes) × IsAt bytes m.place e m
+IsStep bytes valid d place (Ok (AtEnd e next)) =
+    ((tail : Bool) → read_from draft_is_built bytes tail d (elements_left bytes valid place) ≡ ending bytes tail e next (drop next bytes))
+    × (next ≤ length bytes) × (draft_is_built e ≡ true)
+IsStep bytes valid d place (Err (faults.Bad b)) =
+    (tail : Bool) → read_from draft_is_built bytes tail d (elements_left bytes valid place) ≡ Err b
+IsStep bytes valid d place (Err faults.Memory) = Unit {0}
 
 -- what the code gives is what the definition gives, and its fault that of the definition; want of memory says nothing
 abbrev pub GivesScript : Result ReadScript ScriptFault → Outcome → Type 0
