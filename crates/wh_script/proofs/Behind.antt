@@ -91,6 +91,7 @@ count_lines b (c ∷ bs) = by_test (b == 10) refl (count_lines c bs)
     onto-length : (ls : List (List ℕ)) (n : ℕ) → length ls ≡ suc n → length (onto_first b ls) ≡ suc n
     onto-length [] n h = absurd (omega arith)
     onto-length (l ∷ ls) n h = h
+
     by_test : (t : Bool) → (b == 10) ≡ t → length (raw_lines (c ∷ bs)) ≡ suc (count_by (λ d. d == 10) (before_last (c ∷ bs))) → length (cond t ((b ∷ []) ∷ raw_lines (c ∷ bs)) (onto_first b (raw_lines (c ∷ bs)))) ≡ suc (count_by (λ d. d == 10) (b ∷ before_last (c ∷ bs)))
     by_test true e more = ap suc (more ∙ sym (count-yes b (before_last (c ∷ bs)) e))
     by_test false e more = onto-length (raw_lines (c ∷ bs)) (count_by (λ d. d == 10) (before_last (c ∷ bs))) more ∙ ap suc (sym (count-no b (before_last (c ∷ bs)) e))
@@ -104,7 +105,7 @@ pub last_line : (bytes : List ℕ) → max 1 (length (lines_of bytes)) ≡ line_
 last_line [] = refl
 last_line (b ∷ bs) =
     let counted : length (lines_of (b ∷ bs)) ≡ line_at (b ∷ bs) (length (b ∷ bs) - 1) =
-      length-placed 1 0 (raw_lines (b ∷ bs)) ∙ count_lines b bs ∙ ap (λ xs. suc (count_by (λ c. c == 10) xs)) (before_last-take (b ∷ bs)) in
+    length-placed 1 0 (raw_lines (b ∷ bs)) ∙ count_lines b bs ∙ ap (λ xs. suc (count_by (λ c. c == 10) xs)) (before_last-take (b ∷ bs)) in
     omega (arith, counted)
 
 pub ruleset ends = (last_line)

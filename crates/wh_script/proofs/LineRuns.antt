@@ -98,7 +98,7 @@ lines_at-first bytes place h =
     let some : 0 < length ds = rw length-drop (omega arith) in
     let count = count_by {X = ℕ} (λ b. b == 10) in
     let sum : 0 < length (drop j ds) → count (take (place + j) bytes) ≡ count (take place bytes) + 1 =
-      λ more. ap count (take-add place j bytes) ∙ count_by-append (λ b. b == 10) (take place bytes) (take j ds) ∙ ap (λ k. count (take place bytes) + k) (line_ends-one ds more) in
+    λ more. ap count (take-add place j bytes) ∙ count_by-append (λ b. b == 10) (take place bytes) (take j ds) ∙ ap (λ k. count (take place bytes) + k) (line_ends-one ds more) in
     let number : 0 < length (drop j ds) → suc (line_at bytes place) ≡ line_at bytes (place + j) = λ more. omega (arith, sum more) in
     rw (raw_lines-first ds some)
     (ap (λ ls. line_of bytes place ∷ ls)
@@ -218,6 +218,7 @@ pieces-text (suc fuel) bytes place few some =
     within : (ds : List ℕ) → 0 < text_len true ds → 0 < length ds
     within [] h = absurd (omega arith)
     within (d ∷ ds) h = omega arith
+
     by_rest : (m : ℕ) → text_len true (drop (place + line_len (drop place bytes)) bytes) ≡ m → text_len true (drop place bytes) ≡ line_len (drop place bytes) + text_len true (drop (place + line_len (drop place bytes)) bytes) → (0 < text_len true (drop (place + line_len (drop place bytes)) bytes) → pieces_at bytes (place + line_len (drop place bytes)) ≡ TextRun (place + line_len (drop place bytes)) (take (text_len true (drop (place + line_len (drop place bytes)) bytes)) (drop (place + line_len (drop place bytes)) bytes)) ∷ pieces_at bytes (place + line_len (drop place bytes) + text_len true (drop (place + line_len (drop place bytes)) bytes))) → text_onto (line_of bytes place) (pieces_at bytes (place + line_len (drop place bytes))) ≡ TextRun place (take (text_len true (drop place bytes)) (drop place bytes)) ∷ pieces_at bytes (place + text_len true (drop place bytes))
     by_rest zero e sum more =
         let j = line_len (drop place bytes) in
@@ -230,7 +231,7 @@ pieces-text (suc fuel) bytes place few some =
         let q = place + j in
         let left = text_len true (drop q bytes) in
         let texts : take j ds ++ take left (drop q bytes) ≡ take (text_len true ds) ds =
-          ap (λ xs. take j ds ++ take left xs) (sym (drop-drop j place bytes)) ∙ sym (ap (λ k. take k ds) sum ∙ take-add j left ds) in
+        ap (λ xs. take j ds ++ take left xs) (sym (drop-drop j place bytes)) ∙ sym (ap (λ k. take k ds) sum ∙ take-add j left ds) in
         let places : q + left ≡ place + text_len true ds = omega (arith, sum) in
         ap (text_onto (line_of bytes place)) (more (omega (arith, e)))
         ∙ ap (λ xs. TextRun place xs ∷ pieces_at bytes (q + left)) texts

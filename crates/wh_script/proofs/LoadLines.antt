@@ -37,10 +37,11 @@ below m n h = grind (arith, nat_tests)
 block-end : (bytes : List ℕ) (place : ℕ) → length bytes ≤ place → IsBlock bytes place
 block-end bytes place h =
     let none : lines_at bytes place ≡ [] = lines_at-end bytes place h in
-    let size : block_at bytes place ≡ 0 = block_len-end bytes place h in
-    (ap (λ ls. block_bytes (before_closing ls)) none ∙ sym (ap (λ k. take k (drop place bytes)) size),
-    ap is_closed none ∙ sym (not_below (place + block_at bytes place) (length bytes) (omega arith)),
-    ap behind_closing none ∙ sym (lines_at-end bytes (behind_line bytes (place + block_at bytes place)) (omega arith)))
+    let size : block_at bytes place ≡ 0 = block_len-end bytes place h in (
+      ap (λ ls. block_bytes (before_closing ls)) none ∙ sym (ap (λ k. take k (drop place bytes)) size),
+      ap is_closed none ∙ sym (not_below (place + block_at bytes place) (length bytes) (omega arith)),
+      ap behind_closing none ∙ sym (lines_at-end bytes (behind_line bytes (place + block_at bytes place)) (omega arith)),
+    )
 
 -- the line closes the block
 block-closing : (bytes : List ℕ) (place : ℕ) → place < length bytes → is_closing (line_of bytes place).raw ≡ true → IsBlock bytes place
@@ -50,10 +51,11 @@ block-closing bytes place h e =
     let here : place + block_at bytes place ≡ place = omega (arith, size) in
     let no_bytes : block_bytes (before_closing (line_of bytes place ∷ lines_at bytes (behind_line bytes place))) ≡ [] = rw e refl in
     let closed : is_closed (line_of bytes place ∷ lines_at bytes (behind_line bytes place)) ≡ true = rw e refl in
-    let rest : behind_closing (line_of bytes place ∷ lines_at bytes (behind_line bytes place)) ≡ lines_at bytes (behind_line bytes place) = rw e refl in
-    (ap (λ ls. block_bytes (before_closing ls)) lines ∙ no_bytes ∙ sym (ap (λ k. take k (drop place bytes)) size),
-    ap is_closed lines ∙ closed ∙ sym (below (place + block_at bytes place) (length bytes) (omega arith)),
-    ap behind_closing lines ∙ rest ∙ sym (ap (λ p. lines_at bytes (behind_line bytes p)) here))
+    let rest : behind_closing (line_of bytes place ∷ lines_at bytes (behind_line bytes place)) ≡ lines_at bytes (behind_line bytes place) = rw e refl in (
+      ap (λ ls. block_bytes (before_closing ls)) lines ∙ no_bytes ∙ sym (ap (λ k. take k (drop place bytes)) size),
+      ap is_closed lines ∙ closed ∙ sym (below (place + block_at bytes place) (length bytes) (omega arith)),
+      ap behind_closing lines ∙ rest ∙ sym (ap (λ p. lines_at bytes (behind_line bytes p)) here),
+    )
 
 -- one line more
 block-more : (bytes : List ℕ) (place : ℕ) → place < length bytes → is_closing (line_of bytes place).raw ≡ false → IsBlock bytes (behind_line bytes place) → IsBlock bytes place
@@ -68,10 +70,11 @@ block-more bytes place h e more =
     let closed : is_closed (line_of bytes place ∷ lines_at bytes q) ≡ is_closed (lines_at bytes q) = rw e refl in
     let rest : behind_closing (line_of bytes place ∷ lines_at bytes q) ≡ behind_closing (lines_at bytes q) = rw e refl in
     let parts : take (block_at bytes place) ds ≡ take j ds ++ take (block_at bytes q) (drop q bytes) =
-      ap (λ k. take k ds) size ∙ take-add j (block_at bytes q) ds ∙ ap (λ xs. take j ds ++ take (block_at bytes q) xs) (drop-drop j place bytes) in
-    (ap (λ ls. block_bytes (before_closing ls)) lines ∙ some_bytes ∙ ap (λ xs. take j ds ++ xs) more.0 ∙ sym parts,
-    ap is_closed lines ∙ closed ∙ more.1 ∙ ap (λ p. nat_lt p (length bytes)) there,
-    ap behind_closing lines ∙ rest ∙ more.2 ∙ ap (λ p. lines_at bytes (behind_line bytes p)) there)
+    ap (λ k. take k ds) size ∙ take-add j (block_at bytes q) ds ∙ ap (λ xs. take j ds ++ take (block_at bytes q) xs) (drop-drop j place bytes) in (
+      ap (λ ls. block_bytes (before_closing ls)) lines ∙ some_bytes ∙ ap (λ xs. take j ds ++ xs) more.0 ∙ sym parts,
+      ap is_closed lines ∙ closed ∙ more.1 ∙ ap (λ p. nat_lt p (length bytes)) there,
+      ap behind_closing lines ∙ rest ∙ more.2 ∙ ap (λ p. lines_at bytes (behind_line bytes p)) there,
+    )
 
 pub block-is : (fuel : ℕ) (bytes : List ℕ) (place : ℕ) → length bytes ≤ place + fuel → IsBlock bytes place
 block-is zero bytes place few = block-end bytes place (omega arith)
@@ -80,6 +83,7 @@ block-is (suc fuel) bytes place few = by_left (length bytes - place) refl (λ h.
     by_test : (t : Bool) → is_closing (line_of bytes place).raw ≡ t → place < length bytes → (0 < length (drop place bytes) → IsBlock bytes (behind_line bytes place)) → IsBlock bytes place
     by_test true e h more = block-closing bytes place h e
     by_test false e h more = block-more bytes place h e (more (rw length-drop (omega arith)))
+
     by_left : (n : ℕ) → length bytes - place ≡ n → (0 < length (drop place bytes) → IsBlock bytes (behind_line bytes place)) → IsBlock bytes place
     by_left zero e more = block-end bytes place (omega (arith, e))
     by_left (suc n) e more = by_test (is_closing (line_of bytes place).raw) refl (omega (arith, e)) more

@@ -3,11 +3,12 @@ use Rattle.std.proofs.Common.{◌≡◌, ℕ, ◌≤◌, ◌<◌, ◌+◌, ◌-�
 use Rattle.std.proofs.lemmas.Bool.Decides.{nat_tests}
 use Rattle.std.proofs.lemmas.List.{drop-drop, drop_all, length-drop, length-take, length-take-le, take-take, take_all}
 use Rattle.std.specs.Prelude.{flat_map, nat_le, nat_lt, ◌&&◌}
-use Rattle.def_built.specs.Form.{draft_is_built}
-use Rattle.def_grammar.specs.Lines.{Directive, DirectiveAt, EndAt, EndLoad, EndScript, InLoad, InText, Line, LoadBlock, LoadOf, Order, Piece, SessionAt, Setup, TextRun, Unknown, directive_on, directive_piece, pieces_from, raw_lines}
-use Rattle.def_grammar.specs.Script.{Directed, Draft, bad, Element, Loaded, block_bytes, broken_within, ending, line_at, piece_elements, read_from, size_of, take_directive, take_load, text_elements, where_built}
+use Rattle.std.specs.Str.Lossy.{utf8_valid_len}
+use Rattle.def_built.specs.Form.{built_script, draft_is_built}
+use Rattle.def_grammar.specs.Lines.{Directive, DirectiveAt, EndAt, EndLoad, EndScript, InLoad, InText, Line, LoadBlock, LoadOf, Order, Piece, SessionAt, Setup, TextRun, Unknown, directive_on, directive_piece, pieces, pieces_from, raw_lines}
+use Rattle.def_grammar.specs.Script.{Directed, Draft, bad, Element, Loaded, block_bytes, broken_within, ending, line_at, first_draft, piece_elements, read_from, size_of, take_directive, take_load, text_elements, where_built}
 use Rattle.wh_base.specs.declared.statements.ScriptKind.TheVariants.{NotUtf8}
-use Rattle.wh_script.proofs.LineRuns.{length_of_line, line_len-le, pieces-directive, pieces-text}
+use Rattle.wh_script.proofs.LineRuns.{length_of_line, lines_at-end, pieces-directive, pieces-text}
 use Rattle.wh_script.proofs.LoadLines.{block-is, lines_at-bytes, pieces-load, size_of-bytes}
 use Rattle.wh_script.specs.Pieces.{IsAlone, IsStep, IsTaken, IsWalked, ReadsOn, before_closing, behind_block, behind_closing, behind_line, block_at, elements_left, is_closed, line_len, line_of, lines_at, load_block, pieces_at, text_len}
 use Rattle.wh_script.specs.Sections.{Gives, meant}
@@ -48,10 +49,10 @@ elements-load bytes valid place name h e d =
     let q = behind_line bytes place in
     let ls = lines_at bytes q in
     let pieces : pieces_at bytes place ≡ LoadBlock l name (before_closing ls) (is_closed ls) ∷ pieces_at bytes (behind_block bytes q) =
-      pieces-directive bytes place h e
-      ∙ ap (λ t. directive_piece l t ls (pieces_from ls)) d
-      ∙ pieces-load ls l name []
-      ∙ ap (λ more. LoadBlock l name (before_closing ls) (is_closed ls) ∷ pieces_from more InText) (block-is (length bytes) bytes q (omega arith)).2 in
+    pieces-directive bytes place h e
+    ∙ ap (λ t. directive_piece l t ls (pieces_from ls)) d
+    ∙ pieces-load ls l name []
+    ∙ ap (λ more. LoadBlock l name (before_closing ls) (is_closed ls) ∷ pieces_from more InText) (block-is (length bytes) bytes q (omega arith)).2 in
     ap (flat_map (piece_elements valid)) pieces
 
 -- `@end`
@@ -91,12 +92,13 @@ pub step-then : (bytes : List ℕ) (valid place next : ℕ) (d e : Draft) (es fs
 step-then bytes valid place next d e es fs (Ok (On f m)) first walked all later within =
     let both : IsTaken bytes d (es ++ fs) (Ok f) = taken-both bytes d e es fs (Ok f) first walked.0 in
     let reads : ReadsOn bytes d (elements_left bytes valid place) f (elements_left bytes valid next) =
-      λ tail. ap (read_from draft_is_built bytes tail d) all ∙ both tail (elements_left bytes valid next) in
-    let there : m.place ≡ next = walked.1.0 in
-    (subst (λ p. ReadsOn bytes d (elements_left bytes valid place) f (elements_left bytes valid p)) (sym there) reads,
-    omega (arith, there),
-    omega (arith, there),
-    (refl, walked.1.1 ∙ ap (line_at bytes) (sym there), walked.1.2))
+    λ tail. ap (read_from draft_is_built bytes tail d) all ∙ both tail (elements_left bytes valid next) in
+    let there : m.place ≡ next = walked.1.0 in (
+      subst (λ p. ReadsOn bytes d (elements_left bytes valid place) f (elements_left bytes valid p)) (sym there) reads,
+      omega (arith, there),
+      omega (arith, there),
+      (refl, walked.1.1 ∙ ap (line_at bytes) (sym there), walked.1.2),
+    )
 step-then bytes valid place next d e es fs (Ok (AtEnd f place')) first walked all later within = absurd walked
 step-then bytes valid place next d e es fs (Err (faults.Bad b)) first walked all later within =
     let both : IsTaken bytes d (es ++ fs) (Err (faults.Bad b)) = taken-both bytes d e es fs (Err (faults.Bad b)) first walked in
@@ -178,9 +180,9 @@ block-first bytes place line start size name block closed d r e s m b c h =
     let known = block-is (length bytes) bytes q (omega arith) in
     let len : size ≡ block_at bytes q = m ∙ ap (block_at bytes) s in
     let block_is : block ≡ block_bytes (before_closing ls) =
-      b ∙ ap (λ p. take size (drop p bytes)) s ∙ ap (λ n. take n (drop q bytes)) len ∙ sym known.0 in
+    b ∙ ap (λ p. take size (drop p bytes)) s ∙ ap (λ n. take n (drop q bytes)) len ∙ sym known.0 in
     let closed_is : closed ≡ is_closed ls =
-      c ∙ ap (λ p. nat_lt (p + size) (length bytes)) s ∙ ap (λ n. nat_lt (q + n) (length bytes)) len ∙ sym known.1 in
+    c ∙ ap (λ p. nat_lt (p + size) (length bytes)) s ∙ ap (λ n. nat_lt (q + n) (length bytes)) len ∙ sym known.1 in
     let on_line = subst (λ n. Gives r (where_built draft_is_built n (take_load d n name block closed))) e h in
     let with_block = subst (λ bs. Gives r (where_built draft_is_built (line_at bytes place) (take_load d (line_at bytes place) name bs closed))) block_is on_line in
     loaded-taken bytes d (line_of bytes place) name (before_closing ls) (is_closed ls) r
@@ -193,10 +195,10 @@ block-all bytes valid place start size next name h e d s m within n =
     let known = block-is (length bytes) bytes q (omega arith) in
     let len : size ≡ block_at bytes q = m ∙ ap (block_at bytes) s in
     let taken : length (take (block_at bytes q) (drop q bytes)) ≡ block_at bytes q =
-      length-take-le (block_at bytes q) (drop q bytes) (rw length-drop (omega (arith, len, s))) in
+    length-take-le (block_at bytes q) (drop q bytes) (rw length-drop (omega (arith, len, s))) in
     let lines : size_of (before_closing ls) ≡ size = size_of-bytes (before_closing ls) ∙ ap length known.0 ∙ taken ∙ sym len in
     let sum : length (line_of bytes place).raw + size_of (before_closing ls) ≡ start + size - place =
-      omega (arith, length_of_line (drop place bytes), lines, s) in
+    omega (arith, length_of_line (drop place bytes), lines, s) in
     let behind : behind_block bytes q ≡ next = sym (n ∙ ap (λ p. behind_line bytes (p + size)) s ∙ ap (λ k. behind_line bytes (q + k)) len) in
     elements-load bytes valid place name h e d
     ∙ ap (λ k. (load_element bytes place name ∷ broken_within valid place k) ++ elements_left bytes valid (behind_block bytes q)) sum
@@ -207,3 +209,17 @@ block-all bytes valid place start size next name h e d s m within n =
 pub end-step : (bytes : List ℕ) (valid place next : ℕ) (d : Draft) → place < length bytes → text_len true (drop place bytes) ≡ 0 → directive_on (line_of bytes place) ≡ EndScript → next ≡ place + line_len (drop place bytes) → next ≤ length bytes → draft_is_built d ≡ true → IsStep bytes valid d place (Ok (AtEnd d next))
 end-step bytes valid place next d h e t n within built =
     (λ tail. elements-end bytes valid place h e t d tail ∙ ap (λ p. ending bytes tail d p (drop p bytes)) (sym n), within, built)
+
+-- ---- the whole
+
+-- nothing is read
+pub begun : (bytes : List ℕ) (tail : Bool) (valid : ℕ) → valid ≡ utf8_valid_len bytes → read_from draft_is_built bytes tail first_draft (elements_left bytes valid 0) ≡ built_script bytes tail
+unfolding elements_left built_script
+begun bytes tail valid e = ap (λ v. read_from draft_is_built bytes tail first_draft (flat_map (piece_elements v) (pieces bytes))) e
+
+-- all is read
+pub none_left : (bytes : List ℕ) (valid place : ℕ) → length bytes ≤ place → elements_left bytes valid place ≡ []
+unfolding elements_left
+none_left bytes valid place h = ap (λ ls. flat_map (piece_elements valid) (pieces_from ls InText)) (lines_at-end bytes place h)
+
+pub ruleset scripts = (begun, none_left)

@@ -82,7 +82,13 @@ fn after_fault(bytes: &[u8], valid: usize, place: usize) -> Option<BadScript>
 }
 
 // What is open at the end, and then what follows it where nothing may.
-fn end_fault(draft: &Draft, bytes: &[u8], valid: usize, tail: bool, place: usize) -> Option<BadScript>
+fn end_fault(
+    draft: &Draft,
+    bytes: &[u8],
+    valid: usize,
+    tail: bool,
+    place: usize,
+) -> Option<BadScript>
     requires few { length bytes.now < 2 ^ 32 }
     requires utf8 { valid ≡ utf8_valid_len bytes.now }
     requires within { valid ≤ length bytes.now }

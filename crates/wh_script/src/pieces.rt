@@ -169,8 +169,21 @@ fn read_block(
     let rest = bytes.split_at(start).1;
     let size = block_len(rest);
     let end = start + size;
-    match draft.read_load(alloc, mark.line, name, rest.split_at(size).0, end < bytes.len()) {
-        Ok(draft) => walk_on(draft, bytes, valid, mark, end - mark.place, end + line_from(bytes, end).len()),
+    match draft.read_load(
+        alloc,
+        mark.line,
+        name,
+        rest.split_at(size).0,
+        end < bytes.len(),
+    ) {
+        Ok(draft) => walk_on(
+            draft,
+            bytes,
+            valid,
+            mark,
+            end - mark.place,
+            end + line_from(bytes, end).len(),
+        ),
         Err(fault) => Err(fault),
     }
 }

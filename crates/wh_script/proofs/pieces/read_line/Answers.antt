@@ -10,6 +10,6 @@ returns-in-EndScript c =
     let bytes = c.args.bytes.now in
     let place = c.args.mark.place in
     let directive : directive_on (line_of bytes place) ≡ EndScript =
-      ap directive_in (sym c.line_from-line.ensures.line) ∙ sym c.in-Ok.ensures.directive ∙ ap meant c.in-EndScript.is in
+    ap directive_in (sym c.line_from-line.ensures.line) ∙ sym c.in-Ok.ensures.directive ∙ ap meant c.in-EndScript.is in
     end-step bytes c.args.valid place (place + length c.line_from-line.result.now) c.args.draft c.requires.within c.requires.no_text directive
     (ap (λ n. place + n) c.line_from-line.ensures.len) c.line_from-line.ensures.within c.requires.built
