@@ -1,14 +1,15 @@
 -- The lines of a script's bytes by their lengths, and what it means that elements of a script were taken.
 use Rattle.def_built.specs.Form.{draft_is_built}
-use Rattle.def_grammar.specs.Lines.{InText, Line, LoadBlock, Piece, content_of, pieces_from, placed_lines, raw_lines}
+use Rattle.def_grammar.specs.Lines.{Directive, InText, Line, LoadBlock, Piece, content_of, directive_on, pieces_from, placed_lines, raw_lines}
 use Rattle.def_grammar.specs.Script.{Draft, Element, Outcome, ending, is_white, line_at, piece_elements, read_from}
-use Rattle.std.specs.Prelude.{Bool, Err, List, Ok, Result, [], codes, cond, drop, false, flat_map, length, suc, take, true, ℕ, ◌&&◌, ◌||◌, ◌++◌, ◌+◌, ◌==◌, ◌∷◌, ◌≡◌, ◌<◌, ◌≤◌}
+use Rattle.std.specs.Prelude.{Bool, Err, List, Ok, Result, [], codes, cond, drop, false, flat_map, length, suc, take, true, ℕ, ◌&&◌, ◌||◌, ◌++◌, ◌+◌, ◌==◌, ◌∷◌, ◌≡◌, ◌<◌, ◌≤◌, ◌^◌}
 use Rattle.wh_base.specs.Lists.{same_text}
 use Rattle.wh_script.specs.declared.fault.ScriptFault.{ScriptFault}
 use Rattle.wh_script.specs.declared.fault.ScriptFault.TheVariants as faults
 use Rattle.wh_script.specs.declared.lines.Directive as ours
 use Rattle.wh_script.specs.declared.lines.Directive.TheVariants as directives
 use Rattle.wh_script.specs.declared.lines.LineMark.{LineMark}
+use Rattle.wh_script.specs.declared.pieces.Position.{Position}
 use Rattle.wh_script.specs.declared.pieces.Walked.{Walked}
 use Rattle.wh_script.specs.declared.pieces.Walked.TheVariants.{AtEnd, On}
 use Rattle.wh_script.specs.declared.script.ReadScript.{ReadScript}
@@ -52,6 +53,18 @@ pieces_at bytes place = pieces_from (lines_at bytes place) InText
 -- the elements, where the first `valid` bytes are UTF-8
 unfoldable pub elements_left : List ℕ → ℕ → ℕ → List Element
 elements_left bytes valid place = flat_map (piece_elements valid) (pieces_at bytes place)
+
+-- a position at the begin of a line of a script that is no larger than one may be
+abbrev pub IsPosition : Position → Type 0
+IsPosition p =
+    (length p.bytes.now < 2 ^ 32) × (p.valid ≤ length p.bytes.now) × (p.mark.place ≤ length p.bytes.now)
+    × (p.mark.line ≡ line_at p.bytes.now p.mark.place)
+
+-- no text stands at the position, and this directive is on the line there
+abbrev pub IsAtDirective : Position → Directive → Type 0
+IsAtDirective p d =
+    (p.mark.place < length p.bytes.now) × (text_len true (drop p.mark.place p.bytes.now) ≡ 0)
+    × (directive_on (line_of p.bytes.now p.mark.place) ≡ d)
 
 -- the directive is a piece by itself
 abbrev pub IsAlone : ours.Directive → Type 0

@@ -10,8 +10,7 @@ use crate::fault::ScriptFault;
 use crate::lines::line_at;
 use crate::script::ReadScript;
 use std::alloc::Global;
-use wh_base::seq::Seq;
-use wh_base::statements::{BadScript, Script, ScriptKind};
+use wh_base::statements::{BadScript, ScriptKind};
 
 /// How many bytes in front are UTF-8.
 #[tactic(auto, using(crate::proofs::Behind::valid))]
@@ -61,62 +60,49 @@ fn first_black(bytes: &[u8], place: usize) -> Option<usize>
 }
 
 // The fault of the bytes from a place on, where white space alone may stand.
-fn after_fault(bytes: &[u8], valid: usize, place: usize) -> Option<BadScript>
+fn after_fault(bytes: &[u8], place: usize) -> Option<BadScript>
     requires few { length bytes.now < 2 ^ 32 }
-    requires utf8 { valid ≡ utf8_valid_len bytes.now }
-    requires within { valid ≤ length bytes.now }
-    requires behind { place ≤ length bytes.now }
+    requires within { place ≤ length bytes.now }
     ensures { result ≡ after_fault bytes.now place (drop place bytes.now) }
 {
-    match first_black(bytes, place) {
-        Some(black) if black < valid => Some(BadScript {
+    let black = first_black(bytes, place)?;
+    let valid = valid_len(bytes);
+    if black < valid {
+        Some(BadScript {
             line: line_at(bytes, black),
             kind: ScriptKind::AfterEnd,
-        }),
-        Some(_) => Some(BadScript {
+        })
+    } else {
+        Some(BadScript {
             line: line_at(bytes, valid),
             kind: ScriptKind::NotUtf8,
-        }),
-        None => None,
+        })
     }
 }
 
 // What is open at the end, and then what follows it where nothing may.
-fn end_fault(
-    draft: &Draft,
-    bytes: &[u8],
-    valid: usize,
-    tail: bool,
-    place: usize,
-) -> Option<BadScript>
+fn end_fault(draft: &Draft, bytes: &[u8], tail: bool, place: usize) -> Option<BadScript>
     requires few { length bytes.now < 2 ^ 32 }
-    requires utf8 { valid ≡ utf8_valid_len bytes.now }
-    requires within { valid ≤ length bytes.now }
-    requires behind { place ≤ length bytes.now }
+    requires within { place ≤ length bytes.now }
     ensures { result ≡ first_some (open_fault draft.entry.now ∷ cond tail None (after_fault bytes.now place (drop place bytes.now)) ∷ []) }
 {
     match draft.open_fault() {
         Some(open) => Some(open),
         None if tail => None,
-        None => after_fault(bytes, valid, place),
+        None => after_fault(bytes, place),
     }
 }
 
-// The script that was read.
+// The script that was read, and the place behind it.
 #[tactic(auto, using(crate::proofs::Behind::finishes))]
 fn finish(draft: Draft, alloc: Global, place: usize) -> Result<ReadScript, ScriptFault>
     requires { draft_is_built draft ≡ true }
     ensures gives { GivesScript result (Ok (finish draft place)) }
     ensures built { IfOk result (λ r. script_is_built r.script ≡ true) }
 {
-    let mut draft = draft;
-    let order = match draft.order.take() {
-        Some(order) => order,
-        None => Seq::new(alloc),
-    };
-    match draft.into_sections() {
-        Ok(sections) => Ok(ReadScript {
-            script: Script { sections, order },
+    match draft.into_script(alloc) {
+        Ok(script) => Ok(ReadScript {
+            script,
             next: place,
         }),
         Err(_) => Err(ScriptFault::Memory),
@@ -128,19 +114,16 @@ pub(crate) fn read_end(
     draft: Draft,
     alloc: Global,
     bytes: &[u8],
-    valid: usize,
     tail: bool,
     place: usize,
 ) -> Result<ReadScript, ScriptFault>
     requires few { length bytes.now < 2 ^ 32 }
-    requires utf8 { valid ≡ utf8_valid_len bytes.now }
-    requires within { valid ≤ length bytes.now }
-    requires behind { place ≤ length bytes.now }
+    requires within { place ≤ length bytes.now }
     requires built { draft_is_built draft ≡ true }
     ensures gives { GivesScript result (ending bytes.now tail draft place (drop place bytes.now)) }
     ensures built { IfOk result (λ r. script_is_built r.script ≡ true) }
 {
-    match end_fault(&draft, bytes, valid, tail, place) {
+    match end_fault(&draft, bytes, tail, place) {
         Some(fault) => Err(ScriptFault::Bad(fault)),
         None => finish(draft, alloc, place),
     }

@@ -1,9 +1,9 @@
 ghost use Rattle.def_built.specs.Form.{draft_is_built};
-ghost use Rattle.def_grammar.specs.Lines.{LoadOf, directive_on, raw_lines};
-ghost use Rattle.def_grammar.specs.Script.{broken_within, line_at};
-ghost use Rattle.std.specs.Prelude.{◌≡◌, ◌<◌, ◌≤◌, ◌+◌, ◌^◌, codes, drop, length, take, true};
+ghost use Rattle.def_grammar.specs.Lines.{LoadOf, raw_lines};
+ghost use Rattle.def_grammar.specs.Script.{broken_within};
+ghost use Rattle.std.specs.Prelude.{◌≡◌, ◌<◌, ◌≤◌, ◌+◌, codes, drop, length, take, true};
 ghost use Rattle.wh_base.specs.Lists.{same_text};
-ghost use Rattle.wh_script.specs.Pieces.{IsAlone, IsStep, IsWalked, block_len, is_closing, line_len, line_of, text_len};
+ghost use Rattle.wh_script.specs.Pieces.{IsAlone, IsAtDirective, IsPosition, IsStep, IsWalked, block_len, is_closing, line_len, text_len};
 ghost use Rattle.wh_script.specs.Sections.{HasFewBytes, meant};
 
 use crate::draft::{Draft, bad};
@@ -12,6 +12,16 @@ use crate::lines::{Directive, LineMark, content_of, directive_on, line_at, mark_
 use std::alloc::Global;
 use wh_base::statements::ScriptKind;
 use wh_base::txt::Txt;
+
+/// Where the walk over a script is.
+#[derive(Clone, Copy)]
+pub(crate) struct Position<'a> {
+    pub bytes: &'a [u8],
+    /// How many bytes in front are UTF-8.
+    pub valid: usize,
+    /// The next byte, at the begin of a line.
+    pub mark: LineMark,
+}
 
 /// What the walk over a script comes to behind a piece.
 #[derive(Drop)]
@@ -99,50 +109,38 @@ fn block_len(bytes: &[u8]) -> usize
 
 // On from a piece of this size to the next place, or NotUtf8 where the first byte that is no UTF-8 stands in the piece.
 #[tactic(auto, using(crate::proofs::Walks::ons))]
-fn walk_on(
-    draft: Draft,
-    bytes: &[u8],
-    valid: usize,
-    mark: LineMark,
-    size: usize,
-    next: usize,
-) -> Result<Walked, ScriptFault>
-    requires few { length bytes.now < 2 ^ 32 }
-    requires utf8 { valid ≤ length bytes.now }
-    requires line { mark.line ≡ line_at bytes.now mark.place }
-    requires sized { mark.place + size ≤ length bytes.now }
-    requires later { mark.place ≤ next }
-    requires within { next ≤ length bytes.now }
+fn walk_on(draft: Draft, at: &Position<'_>, size: usize, next: usize) -> Result<Walked, ScriptFault>
+    requires position { IsPosition at.now }
+    requires sized { at.now.mark.place + size ≤ length at.now.bytes.now }
+    requires later { at.now.mark.place ≤ next }
+    requires within { next ≤ length at.now.bytes.now }
     requires built { draft_is_built draft ≡ true }
-    ensures { IsWalked bytes.now draft (broken_within valid mark.place size) next result }
+    ensures { IsWalked at.now.bytes.now draft (broken_within at.now.valid at.now.mark.place size) next result }
 {
-    if mark.place <= valid && valid < mark.place + size {
-        return Err(bad(line_at(bytes, valid), ScriptKind::NotUtf8));
+    if at.mark.place <= at.valid && at.valid < at.mark.place + size {
+        return Err(bad(line_at(at.bytes, at.valid), ScriptKind::NotUtf8));
     }
-    Ok(Walked::On(draft, mark_at(bytes, mark, next)))
+    Ok(Walked::On(draft, mark_at(at.bytes, at.mark, next)))
 }
 
 // A run of text.
 fn read_run(
     draft: Draft,
     alloc: Global,
-    bytes: &[u8],
-    valid: usize,
-    mark: LineMark,
+    at: &Position<'_>,
     size: usize,
 ) -> Result<Walked, ScriptFault>
-    requires few { length bytes.now < 2 ^ 32 }
-    requires utf8 { valid ≤ length bytes.now }
-    requires line { mark.line ≡ line_at bytes.now mark.place }
-    requires within { mark.place + size ≤ length bytes.now }
-    requires size { size ≡ text_len true (drop mark.place bytes.now) }
+    requires position { IsPosition at.now }
+    requires within { at.now.mark.place + size ≤ length at.now.bytes.now }
+    requires size { size ≡ text_len true (drop at.now.mark.place at.now.bytes.now) }
     requires some { 0 < size }
     requires built { draft_is_built draft ≡ true }
-    ensures { IsStep bytes.now valid draft mark.place result }
+    ensures { IsStep at.now.bytes.now at.now.valid draft at.now.mark.place result }
 {
-    let end = mark.place + size.min(valid.saturating_sub(mark.place));
-    match draft.read_text(alloc, bytes, mark, end) {
-        Ok(draft) => walk_on(draft, bytes, valid, mark, size, mark.place + size),
+    let place = at.mark.place;
+    let end = place + size.min(at.valid.saturating_sub(place));
+    match draft.read_text(alloc, at.bytes, at.mark, end) {
+        Ok(draft) => walk_on(draft, at, size, place + size),
         Err(fault) => Err(fault),
     }
 }
@@ -151,39 +149,24 @@ fn read_run(
 fn read_block(
     draft: Draft,
     alloc: Global,
-    bytes: &[u8],
-    valid: usize,
-    mark: LineMark,
+    at: &Position<'_>,
     name: Txt,
 ) -> Result<Walked, ScriptFault>
-    requires few { length bytes.now < 2 ^ 32 }
-    requires utf8 { valid ≤ length bytes.now }
-    requires line { mark.line ≡ line_at bytes.now mark.place }
-    requires within { mark.place < length bytes.now }
-    requires no_text { text_len true (drop mark.place bytes.now) ≡ 0 }
-    requires directive { directive_on (line_of bytes.now mark.place) ≡ LoadOf name }
+    requires position { IsPosition at.now }
+    requires directive { IsAtDirective at.now (LoadOf name) }
     requires built { draft_is_built draft ≡ true }
-    ensures { IsStep bytes.now valid draft mark.place result }
+    ensures { IsStep at.now.bytes.now at.now.valid draft at.now.mark.place result }
 {
-    let start = mark.place + line_from(bytes, mark.place).len();
-    let rest = bytes.split_at(start).1;
+    let start = at.mark.place + line_from(at.bytes, at.mark.place).len();
+    let rest = at.bytes.split_at(start).1;
     let size = block_len(rest);
     let end = start + size;
-    match draft.read_load(
-        alloc,
-        mark.line,
-        name,
-        rest.split_at(size).0,
-        end < bytes.len(),
-    ) {
-        Ok(draft) => walk_on(
-            draft,
-            bytes,
-            valid,
-            mark,
-            end - mark.place,
-            end + line_from(bytes, end).len(),
-        ),
+    let closed = end < at.bytes.len();
+    match draft.read_load(alloc, at.mark.line, name, rest.split_at(size).0, closed) {
+        Ok(draft) => {
+            let next = end + line_from(at.bytes, end).len();
+            walk_on(draft, at, end - at.mark.place, next)
+        }
         Err(fault) => Err(fault),
     }
 }
@@ -192,75 +175,59 @@ fn read_block(
 fn read_alone(
     draft: Draft,
     alloc: Global,
-    bytes: &[u8],
-    valid: usize,
-    mark: LineMark,
+    at: &Position<'_>,
     directive: &Directive<'_>,
 ) -> Result<Walked, ScriptFault>
-    requires few { length bytes.now < 2 ^ 32 }
-    requires utf8 { valid ≤ length bytes.now }
-    requires line { mark.line ≡ line_at bytes.now mark.place }
-    requires within { mark.place < length bytes.now }
-    requires no_text { text_len true (drop mark.place bytes.now) ≡ 0 }
-    requires directive { directive_on (line_of bytes.now mark.place) ≡ meant directive.now }
+    requires position { IsPosition at.now }
+    requires directive { IsAtDirective at.now (meant directive.now) }
     requires alone { IsAlone directive.now }
     requires words { HasFewBytes directive.now }
     requires built { draft_is_built draft ≡ true }
-    ensures { IsStep bytes.now valid draft mark.place result }
+    ensures { IsStep at.now.bytes.now at.now.valid draft at.now.mark.place result }
 {
-    let size = line_from(bytes, mark.place).len();
-    match draft.read_directive(alloc, mark.line, directive) {
-        Ok(draft) => walk_on(draft, bytes, valid, mark, size, mark.place + size),
+    let size = line_from(at.bytes, at.mark.place).len();
+    match draft.read_directive(alloc, at.mark.line, directive) {
+        Ok(draft) => walk_on(draft, at, size, at.mark.place + size),
         Err(fault) => Err(fault),
     }
 }
 
-// The piece of the directive on the line at the mark.
-fn read_line(
-    draft: Draft,
-    alloc: Global,
-    bytes: &[u8],
-    valid: usize,
-    mark: LineMark,
-) -> Result<Walked, ScriptFault>
-    requires few { length bytes.now < 2 ^ 32 }
-    requires utf8 { valid ≤ length bytes.now }
-    requires line { mark.line ≡ line_at bytes.now mark.place }
-    requires within { mark.place < length bytes.now }
-    requires no_text { text_len true (drop mark.place bytes.now) ≡ 0 }
+// The piece that begins with the directive on the line at the mark.
+fn read_line(draft: Draft, alloc: Global, at: &Position<'_>) -> Result<Walked, ScriptFault>
+    requires position { IsPosition at.now }
+    requires some { at.now.mark.place < length at.now.bytes.now }
+    requires no_text { text_len true (drop at.now.mark.place at.now.bytes.now) ≡ 0 }
     requires built { draft_is_built draft ≡ true }
-    ensures { IsStep bytes.now valid draft mark.place result }
+    ensures { IsStep at.now.bytes.now at.now.valid draft at.now.mark.place result }
 {
-    let line = line_from(bytes, mark.place);
+    let line = line_from(at.bytes, at.mark.place);
     let Ok(directive) = directive_on(alloc, line) else {
         return Err(ScriptFault::Memory);
     };
     match directive {
-        Directive::EndScript => Ok(Walked::AtEnd(draft, mark.place + line.len())),
-        Directive::Load(name) => read_block(draft, alloc, bytes, valid, mark, name),
-        alone => read_alone(draft, alloc, bytes, valid, mark, &alone),
+        Directive::EndScript => Ok(Walked::AtEnd(draft, at.mark.place + line.len())),
+        Directive::Load(name) => read_block(draft, alloc, at, name),
+        alone => read_alone(draft, alloc, at, &alone),
     }
 }
 
-/// The piece that starts at the mark, at the begin of a line.
+/// The piece that starts at the mark, where something is left.
+///
+/// `Bad` is the fault that the script has there, as `script::read_script` has it. `Memory` says that memory ran out.
 pub(crate) fn read_piece(
     draft: Draft,
     alloc: Global,
-    bytes: &[u8],
-    valid: usize,
-    mark: LineMark,
+    at: &Position<'_>,
 ) -> Result<Walked, ScriptFault>
-    requires few { length bytes.now < 2 ^ 32 }
-    requires utf8 { valid ≤ length bytes.now }
-    requires line { mark.line ≡ line_at bytes.now mark.place }
-    requires within { mark.place < length bytes.now }
+    requires position { IsPosition at.now }
+    requires some { at.now.mark.place < length at.now.bytes.now }
     requires built { draft_is_built draft ≡ true }
-    ensures { IsStep bytes.now valid draft mark.place result }
+    ensures { IsStep at.now.bytes.now at.now.valid draft at.now.mark.place result }
 {
-    let size = text_len(bytes.split_at(mark.place).1);
+    let size = text_len(at.bytes.split_at(at.mark.place).1);
     if size == 0 {
-        read_line(draft, alloc, bytes, valid, mark)
+        read_line(draft, alloc, at)
     } else {
-        read_run(draft, alloc, bytes, valid, mark, size)
+        read_run(draft, alloc, at, size)
     }
 }

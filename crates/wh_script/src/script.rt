@@ -6,7 +6,7 @@ use crate::draft::Draft;
 use crate::ending::{no_end, read_end, valid_len};
 use crate::fault::ScriptFault;
 use crate::lines::LineMark;
-use crate::pieces::{Walked, read_piece};
+use crate::pieces::{Position, Walked, read_piece};
 use std::alloc::Global;
 use wh_base::statements::Script;
 
@@ -52,13 +52,13 @@ pub fn read_script(alloc: Global, bytes: &[u8], tail: bool) -> Result<ReadScript
     let mut draft = Draft::new(alloc);
     let mut mark = LineMark { place: 0, line: 1 };
     while mark.place < bytes.len() {
-        match read_piece(draft, alloc, bytes, valid, mark)? {
+        match read_piece(draft, alloc, &Position { bytes, valid, mark })? {
             Walked::On(behind, next) => {
                 draft = behind;
                 mark = next;
             }
             Walked::AtEnd(behind, next) => {
-                return read_end(behind, alloc, bytes, valid, tail, next);
+                return read_end(behind, alloc, bytes, tail, next);
             }
         }
     }

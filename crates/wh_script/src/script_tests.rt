@@ -22,7 +22,10 @@ fn scripts(rt: HostRuntime) -> Result<(), Fail> {
     let table = [
         ("@end", Ok(4)),
         ("-- c\n@end \r\n \t\r\n", Ok(12)),
-        ("@setup\nCREATE TABLE T (A NUMBER);\nINSERT INTO T VALUES (1); SELECT A, COUNT(*) FROM T GROUP BY A;\n@end\n", Ok(103)),
+        (
+            "@setup\nCREATE TABLE T (A NUMBER);\nINSERT INTO T VALUES (1); SELECT A, COUNT(*) FROM T GROUP BY A;\n@end\n",
+            Ok(103),
+        ),
         ("", Err((1, NoEnd))),
         ("@setup\n\n", Err((2, NoEnd))),
         ("@end\n\nx", Err((3, AfterEnd))),
@@ -40,7 +43,10 @@ fn scripts(rt: HostRuntime) -> Result<(), Fail> {
         ("@setup\n;'\n@end", Err((2, Syntax))),
         ("@setup\n'\n@end", Err((2, OpenQuote))),
         ("@setup\n@load T\n\"\n@end\n", Err((2, OpenLoad))),
-        ("@setup\n@load T\n@end\n1,2\n@endload\n", Err((2, LoadShape))),
+        (
+            "@setup\n@load T\n@end\n1,2\n@endload\n",
+            Err((2, LoadShape)),
+        ),
         ("@setup\n@load T\n\"\n@endload\n'", Err((2, NotBuilt))),
         ("@setup\nBEGIN;\n", Err((2, NotBuilt))),
         ("\n@session 1", Err((2, NotBuilt))),

@@ -7,9 +7,9 @@ use Rattle.wh_script.proofs.pieces.read_line.Goals as goal
 
 pub returns-in-EndScript : goal.returns-in-EndScript
 returns-in-EndScript c =
-    let bytes = c.args.bytes.now in
-    let place = c.args.mark.place in
+    let bytes = c.args.at.now.bytes.now in
+    let place = c.args.at.now.mark.place in
     let directive : directive_on (line_of bytes place) ≡ EndScript =
     ap directive_in (sym c.line_from-line.ensures.line) ∙ sym c.in-Ok.ensures.directive ∙ ap meant c.in-EndScript.is in
-    end-step bytes c.args.valid place (place + length c.line_from-line.result.now) c.args.draft c.requires.within c.requires.no_text directive
+    end-step bytes c.args.at.now.valid place (place + length c.line_from-line.result.now) c.args.draft c.requires.some c.requires.no_text directive
     (ap (λ n. place + n) c.line_from-line.ensures.len) c.line_from-line.ensures.within c.requires.built

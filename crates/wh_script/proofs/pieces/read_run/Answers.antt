@@ -5,9 +5,9 @@ use Rattle.wh_script.proofs.pieces.read_run.Goals as goal
 
 pub returns-in-Ok : goal.returns-in-Ok
 returns-in-Ok c =
-    let bytes = c.args.bytes.now in
-    let valid = c.args.valid in
-    let place = c.args.mark.place in
+    let bytes = c.args.at.now.bytes.now in
+    let valid = c.args.at.now.valid in
+    let place = c.args.at.now.mark.place in
     let size = c.args.size in
     let end : place + c.min.result ≡ place + min size (valid - place) = ap (λ n. place + n) (c.min.ensures ∙ ap (min size) c.saturating_sub.ensures) in
     let all = run-all bytes valid place size c.requires.within c.requires.size c.requires.some in
@@ -16,9 +16,9 @@ returns-in-Ok c =
 
 pub returns-in-Err : goal.returns-in-Err
 returns-in-Err c =
-    let bytes = c.args.bytes.now in
-    let valid = c.args.valid in
-    let place = c.args.mark.place in
+    let bytes = c.args.at.now.bytes.now in
+    let valid = c.args.at.now.valid in
+    let place = c.args.at.now.mark.place in
     let size = c.args.size in
     let end : place + c.min.result ≡ place + min size (valid - place) = ap (λ n. place + n) (c.min.ensures ∙ ap (min size) c.saturating_sub.ensures) in
     let all = run-all bytes valid place size c.requires.within c.requires.size c.requires.some in
