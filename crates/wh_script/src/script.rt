@@ -23,12 +23,12 @@ pub struct ReadScript {
 /// that begin with `@`, and LOAD blocks. `Bad` tells what is wrong first, with its line, counted from 1: the fault of the
 /// least place, and of those of one place the one that stands first in `ScriptKind`. A fault is told on the line of
 ///
-/// - `NotUtf8`: the first byte that is no UTF-8;
+/// - `NotUtf8`: the first byte that is no UTF-8; with a tail those behind the end are not looked at;
 /// - `BadCharacter`, `OpenQuote`: the byte of a text that begins no token, or the quote that is not closed;
 /// - `UnknownDirective`: a line that begins with `@` and is no directive;
-/// - `Misplaced`: the statement, or the directive, that may not stand where it does: a statement in no section, a statement
-///   of another kind in a block, `@setup` behind a section or an order, `@session` or `@order` behind an order, a LOAD block
-///   in no section, in a block or behind a statement that is open, and `@endload` with no `@load`;
+/// - `Misplaced`: the statement, or the directive, that may not stand where it does: a statement in no section; in a block
+///   BEGIN and all but INSERT, UPDATE, DELETE and SELECT; `@setup` behind a section or an order; `@session` or `@order`
+///   behind an order; a LOAD block in no section, in a block or behind a statement that is open; `@endload` with no `@load`;
 /// - `SessionNumber`: `@session` or `@order` of a word that is no number of 1 to 64, or `@session` of one that isn't above
 ///   the last;
 /// - `Syntax`: the first token of a statement that isn't in the grammar, or its semicolon where it has none;
