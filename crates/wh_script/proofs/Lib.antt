@@ -6,3 +6,5 @@ pub mod Records
 pub mod Drafts
 pub mod Lasts
 pub mod Orders
+pub mod Names
+pub mod Rows

@@ -1,3 +1,4 @@
 pub mod Sections
 pub mod Drafts
 pub mod Pieces
+pub mod Built

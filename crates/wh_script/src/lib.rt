@@ -14,5 +14,6 @@ pub mod load;
 pub mod order;
 pub mod reading;
 pub mod script;
+pub mod section;
 #[cfg(test)]
 mod tests;
