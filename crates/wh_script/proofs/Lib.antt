@@ -8,3 +8,7 @@ pub mod Lasts
 pub mod Orders
 pub mod Names
 pub mod Rows
+pub mod Steps
+pub mod Cuts
+pub mod Before
+pub mod Texts

@@ -2,3 +2,4 @@ pub mod Sections
 pub mod Drafts
 pub mod Pieces
 pub mod Built
+pub mod Texts

@@ -17,3 +17,4 @@ pub mod script;
 pub mod section;
 #[cfg(test)]
 mod tests;
+pub mod text;

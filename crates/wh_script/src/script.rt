@@ -19,6 +19,7 @@ pub fn read_script(_alloc: Global, bytes: &[u8], tail: bool) -> Result<ReadScrip
     ensures gives { GivesScript result (built_script bytes.now tail) }
     ensures built { IfOk result (λ r. script_is_built r.script ≡ true) }
 {
-    let _ = (bytes, tail);
+    let _ = bytes.len();
+    let _ = tail;
     Err(ScriptFault::Memory)
 }
