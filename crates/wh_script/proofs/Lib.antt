@@ -10,3 +10,9 @@ pub mod LineRuns
 pub mod LoadLines
 pub mod Behind
 pub mod Walks
+pub mod Names
+pub mod Rows
+pub mod Steps
+pub mod Cuts
+pub mod Before
+pub mod Texts

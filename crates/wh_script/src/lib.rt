@@ -15,6 +15,8 @@ pub mod order;
 mod pieces;
 pub mod reading;
 pub mod script;
+pub mod section;
+pub mod text;
 #[cfg(test)]
 mod script_tests;
 #[cfg(test)]
