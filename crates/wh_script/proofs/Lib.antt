@@ -6,3 +6,13 @@ pub mod Records
 pub mod Drafts
 pub mod Lasts
 pub mod Orders
+pub mod LineRuns
+pub mod LoadLines
+pub mod Behind
+pub mod Walks
+pub mod Names
+pub mod Rows
+pub mod Steps
+pub mod Cuts
+pub mod Before
+pub mod Texts

@@ -5,7 +5,7 @@ use Rattle.std.proofs.lemmas.Bool.Decides.{nat_tests}
 use Rattle.std.specs.List.{enumerate_from, list_any}
 use Rattle.std.specs.Prelude.{◌==◌, ◌&&◌, ◌||◌, count_by, flat_map, is_none, map, nat_lt, not, option_to_list}
 use Rattle.def_grammar.specs.Lines.{words_in}
-use Rattle.def_grammar.specs.Script.{Draft, bad, is_section_of, order_by, order_fault, session_number, with_order}
+use Rattle.def_grammar.specs.Script.{Draft, bad, is_section_of, is_too_long, is_unknown, order_by, order_fault, parts_in, sections_of, session_number, with_order}
 use Rattle.wh_base.specs.Lists.{count_from, unless}
 use Rattle.wh_base.specs.Parts.{command_entries, parts_of}
 use Rattle.wh_base.specs.declared.statements.Command.{Command}
@@ -162,19 +162,19 @@ pub ruleset sections = (too_long-by_section)
 
 -- ---- the step
 
-pub order-gives : (r : Result Draft ScriptFault) (d : Draft) (line : ℕ) (ns : List ℕ) (ws : List (List ℕ)) → Some ns ≡ numbers_behind [] ws → Gives r (unless (order_fault d line ns) (with_order d ns)) → Gives r (order_by d line (map session_number ws))
+pub order-gives : (r : Result Draft ScriptFault) (d : Draft) (line : ℕ) (ns : List ℕ) (ws : List (List ℕ)) → Some ns ≡ numbers_behind [] ws → Gives r (unless (order_fault (sections_of d) line ns) (with_order d ns)) → Gives r (order_by d line (map session_number ws))
 order-gives r d line ns ws e h = by_test (list_any is_none (map session_number ws)) e
   where
     by_test : (t : Bool) → Some ns ≡ cond t None (Some (flat_map option_to_list (map session_number ws)))
-        → Gives r (cond t (Err (bad line SessionNumber)) (unless (order_fault d line (flat_map option_to_list (map session_number ws))) (with_order d (flat_map option_to_list (map session_number ws)))))
+        → Gives r (cond t (Err (bad line SessionNumber)) (unless (order_fault (sections_of d) line (flat_map option_to_list (map session_number ws))) (with_order d (flat_map option_to_list (map session_number ws)))))
     by_test true k = cc
-    by_test false k = let same : ns ≡ flat_map option_to_list (map session_number ws) = cc in subst (λ ms. Gives r (unless (order_fault d line ms) (with_order d ms))) same h
+    by_test false k = let same : ns ≡ flat_map option_to_list (map session_number ws) = cc in subst (λ ms. Gives r (unless (order_fault (sections_of d) line ms) (with_order d ms))) same h
 
 pub order-refused : (d : Draft) (line : ℕ) (ws : List (List ℕ)) → None ≡ numbers_behind [] ws → order_by d line (map session_number ws) ≡ Err (bad line SessionNumber)
 order-refused d line ws e = by_test (list_any is_none (map session_number ws)) e
   where
     by_test : (t : Bool) → None ≡ cond t None (Some (flat_map option_to_list (map session_number ws)))
-        → cond t (Err (bad line SessionNumber)) (unless (order_fault d line (flat_map option_to_list (map session_number ws))) (with_order d (flat_map option_to_list (map session_number ws)))) ≡ Err (bad line SessionNumber)
+        → cond t (Err (bad line SessionNumber)) (unless (order_fault (sections_of d) line (flat_map option_to_list (map session_number ws))) (with_order d (flat_map option_to_list (map session_number ws)))) ≡ Err (bad line SessionNumber)
     by_test true k = refl
     by_test false k = cc
 

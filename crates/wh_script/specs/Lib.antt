@@ -1,3 +1,5 @@
 pub mod Sections
 pub mod Drafts
 pub mod Pieces
+pub mod Built
+pub mod Texts

@@ -1,7 +1,7 @@
 ghost use Rattle.def_grammar.specs.Lines.{words_in};
 ghost use Rattle.def_grammar.specs.Lines as defs;
 ghost use Rattle.def_grammar.specs.Script.{begin_section, begin_session, is_later, last_number, order_by, order_fault, sections_of, session_number, take_directive, with_order};
-ghost use Rattle.std.specs.Prelude.{◌≡◌, ◌<◌, ◌^◌, IfOk, Ok, is_none, length, map};
+ghost use Rattle.std.specs.Prelude.{◌≡◌, ◌++◌, ◌<◌, ◌^◌, [], IfOk, Ok, is_none, length, map, option_to_list, unwrap_or};
 ghost use Rattle.wh_base.specs.Lists.{unless};
 ghost use Rattle.wh_script.specs.Drafts.{is_first, last_session};
 ghost use Rattle.wh_script.specs.Sections.{Gives, HasFewBytes, meant};
@@ -10,27 +10,41 @@ use crate::draft::{Draft, bad};
 use crate::fault::ScriptFault;
 use crate::lines::{Directive, session_number};
 use crate::order::{order_fault, order_numbers};
+use crate::section::OpenSection;
 use std::alloc::{AllocError, Global};
 use wh_base::seq::Seq;
-use wh_base::statements::{ScriptKind, Section};
+use wh_base::statements::{Script, ScriptKind, Section};
 
 impl Draft {
     // All sections so far. An error says that memory ran out.
-    pub(crate) fn into_sections(self) -> Result<Seq<Section>, AllocError>
+    fn into_sections(self) -> Result<Seq<Section>, AllocError>
         ensures { IfOk result (λ all. all ≡ sections_of self) }
     {
         let Draft {
-            mut before,
+            before,
             now,
             block: _,
             open_at: _,
             order: _,
         } = self;
-        match now {
-            Some(section) => before.push(section)?,
-            None => {}
-        }
-        Ok(before)
+        sections_with(before, now)
+    }
+
+    /// What was read so far as a script: its sections and its order. An error says that memory ran out.
+    pub(crate) fn into_script(self, alloc: Global) -> Result<Script, AllocError>
+        ensures { IfOk result (λ s. s ≡ record { sections = sections_of self; order = unwrap_or self.order [] }) }
+    {
+        let Draft {
+            before,
+            now,
+            block: _,
+            open_at: _,
+            order,
+        } = self;
+        Ok(Script {
+            sections: sections_with(before, now)?,
+            order: order_or_none(alloc, order),
+        })
     }
 
     // A new section of this session.
@@ -40,10 +54,7 @@ impl Draft {
         match self.into_sections() {
             Ok(before) => Ok(Draft {
                 before,
-                now: Some(Section {
-                    session,
-                    commands: Seq::new(alloc),
-                }),
+                now: Some(OpenSection::new(alloc, session)),
                 block: None,
                 open_at: None,
                 order: None,
@@ -71,7 +82,7 @@ impl Draft {
         ensures { result ≡ last_number self.entry.now }
     {
         match &self.now {
-            Some(section) => Some(section.session),
+            Some(section) => Some(section.session()),
             None => last_session(self.before.as_slice()),
         }
     }
@@ -181,6 +192,27 @@ impl Draft {
             Directive::EndScript => Err(bad(line, ScriptKind::Misplaced)),
             Directive::Unknown => Err(bad(line, ScriptKind::UnknownDirective)),
         }
+    }
+}
+
+// The sections before and the one that goes on.
+fn sections_with(before: Seq<Section>, now: Option<OpenSection>) -> Result<Seq<Section>, AllocError>
+    ensures { IfOk result (λ all. all ≡ before ++ option_to_list now) }
+{
+    let mut all = before;
+    match now {
+        Some(section) => all.push(section.into_section())?,
+        None => {}
+    }
+    Ok(all)
+}
+
+fn order_or_none(alloc: Global, order: Option<Seq<u32>>) -> Seq<u32>
+    ensures { result ≡ unwrap_or order [] }
+{
+    match order {
+        Some(order) => order,
+        None => Seq::new(alloc),
     }
 }
 

@@ -1,16 +1,16 @@
 ghost use Rattle.def_grammar.specs.Script.{bad, command_by, first_draft, in_section, is_dml, is_inner, is_only_word, open_fault, take_closed, take_command, take_inner, take_statement, with_command, with_inner};
 ghost use Rattle.std.specs.List.{list_all};
-ghost use Rattle.std.specs.Prelude.{◌≡◌, ◌++◌, ◌∷◌, IfOk, None, Ok, Some, [], option_map, true};
+ghost use Rattle.std.specs.Prelude.{◌≡◌, IfOk, None, Ok, Some, [], option_map, true};
 ghost use Rattle.wh_base.specs.declared.statements.ScriptKind.TheVariants as kinds;
 ghost use Rattle.wh_lex.specs.Lex.{token_fits};
 ghost use Rattle.wh_script.specs.Drafts.{stated};
 ghost use Rattle.wh_script.specs.Sections.{Gives};
 
 use crate::fault::ScriptFault;
+use crate::section::OpenSection;
 use std::alloc::{AllocError, Global};
 use std::marker::Model;
 use wh_base::seq::Seq;
-use wh_base::shared::Shared;
 use wh_base::statements::{
     BadScript, Block, ChangeStatement, Command, ScriptKind, Section, Statement,
 };
@@ -39,7 +39,7 @@ impl Model for OpenBlock {
 #[derive(Drop)]
 pub struct Draft {
     pub(crate) before: Seq<Section>,
-    pub(crate) now: Option<Section>,
+    pub(crate) now: Option<OpenSection>,
     pub(crate) block: Option<OpenBlock>,
     pub(crate) open_at: Option<u64>,
     pub(crate) order: Option<Seq<u32>>,
@@ -132,7 +132,7 @@ impl Draft {
             order,
         } = self;
         let now = match now {
-            Some(section) => Some(longer(alloc, section, command)?),
+            Some(section) => Some(section.with_command(alloc, command)?),
             None => None,
         };
         Ok(Draft {
@@ -316,18 +316,6 @@ fn block_fault(block: &Option<OpenBlock>) -> Option<BadScript>
         }),
         None => None,
     }
-}
-
-// A section with one command more.
-fn longer(alloc: Global, section: Section, command: Command) -> Result<Section, AllocError>
-    ensures { IfOk result (λ s. s ≡ record section { commands = section.commands ++ command ∷ [] }) }
-{
-    let Section {
-        session,
-        mut commands,
-    } = section;
-    commands.push(Shared::new(alloc, command)?)?;
-    Ok(Section { session, commands })
 }
 
 fn is_only_word(alloc: Global, tokens: &[Token], word: &[u8]) -> bool

@@ -153,95 +153,178 @@ fn line_taken(alloc: Global, draft: Draft, line: u64, text: &[u8]) -> Result<Dra
     told(alloc, draft, line, text)
 }
 
+// The draft behind three lines.
+fn three_taken(
+    alloc: Global,
+    first: &str,
+    second: &str,
+    third: &str,
+) -> Result<Draft, ScriptFault> {
+    let mut draft = Ok(Draft::new(alloc));
+    let mut number = 0u64;
+    for text in [first, second, third] {
+        number = number.wrapping_add(1);
+        draft = match draft {
+            Ok(draft) => line_taken(alloc, draft, number, text.as_bytes()),
+            Err(fault) => Err(fault),
+        };
+    }
+    draft
+}
+
+// Whether the draft's fault is this one, or there is none.
+fn has_fault(draft: Result<Draft, ScriptFault>, line: u64, want: Option<ScriptKind>) -> bool {
+    match draft {
+        Ok(_) => want.is_none(),
+        Err(ScriptFault::Bad(bad)) => bad.line == line && want == Some(bad.kind),
+        Err(ScriptFault::Memory) => false,
+    }
+}
+
 #[test]
-fn drafts(rt: HostRuntime) -> Result<(), Fail> {
+fn statements_taken(rt: HostRuntime) -> Result<(), Fail> {
     let alloc = rt.alloc();
     let table = [
+        ("@session 1", "COMMIT X;", 3, Some(ScriptKind::Syntax)),
+        ("BEGIN;", "SHOW LOG T;", 3, Some(ScriptKind::Misplaced)),
+        ("BEGIN;", "COMMIT;", 3, None),
+        ("SHOW LOG T;", "BEGIN;", 3, None),
+    ];
+    for (second, third, line, want) in table {
+        let draft = three_taken(alloc, "@setup", second, third);
+        assert!(rt; has_fault(draft, line, want), "{third}");
+    }
+    Ok(())
+}
+
+#[test]
+fn directives_taken(rt: HostRuntime) -> Result<(), Fail> {
+    let alloc = rt.alloc();
+    let table = [
+        ("BEGIN;", "@session 0", 2, Some(ScriptKind::OpenBlock)),
+        ("SHOW LOG T", "@order 9", 2, Some(ScriptKind::OpenStatement)),
         (
-            "@setup",
-            "@session 1",
-            "COMMIT X;",
-            3,
-            Some(ScriptKind::Syntax),
-        ),
-        (
-            "@setup",
-            "BEGIN;",
-            "@session 0",
-            2,
-            Some(ScriptKind::OpenBlock),
-        ),
-        (
-            "@session 1",
-            "SHOW LOG T",
-            "@order 9",
-            2,
-            Some(ScriptKind::OpenStatement),
-        ),
-        (
-            "@session 2",
             "SHOW LOG T;",
             "@session 2",
             3,
             Some(ScriptKind::SessionNumber),
         ),
         (
-            "@session 2",
             "SHOW LOG T;",
             "@order 2 2",
             3,
             Some(ScriptKind::OrderTooLong),
         ),
         (
-            "@session 2",
             "SHOW LOG T;",
             "@order 2 3",
             3,
             Some(ScriptKind::OrderUnknown),
         ),
         (
-            "@session 2",
             "SHOW LOG T;",
             "@order 2 x",
             3,
             Some(ScriptKind::SessionNumber),
         ),
-        ("@session 2", "SHOW LOG T;", "@order 2", 3, None),
-        (
-            "@session 2",
-            "|1,2\n3\n",
-            "@order 2",
-            2,
-            Some(ScriptKind::LoadShape),
-        ),
-        ("@session 2", "|1,2\n3,4\n", "@order 2", 2, None),
-        (
-            "@session 2",
-            "BEGIN;",
-            "SHOW LOG T;",
-            3,
-            Some(ScriptKind::Misplaced),
-        ),
-        ("@session 2", "BEGIN;", "COMMIT;", 3, None),
+        ("SHOW LOG T;", "@order 2", 3, None),
     ];
-    for (first, second, third, line, want) in table {
-        let mut draft = Ok(Draft::new(alloc));
-        let mut number = 0u64;
-        for text in [first, second, third] {
-            number = number.wrapping_add(1);
-            draft = match draft {
-                Ok(draft) => line_taken(alloc, draft, number, text.as_bytes()),
-                Err(fault) => Err(fault),
-            };
+    for (second, third, line, want) in table {
+        let draft = three_taken(alloc, "@session 2", second, third);
+        assert!(rt; has_fault(draft, line, want), "{third}");
+    }
+    Ok(())
+}
+
+#[test]
+fn loads_taken(rt: HostRuntime) -> Result<(), Fail> {
+    let alloc = rt.alloc();
+    let table = [
+        ("|1,2\n3\n", 2, Some(ScriptKind::LoadShape)),
+        ("|1,2\n3,4\n", 2, None),
+    ];
+    for (second, line, want) in table {
+        let draft = three_taken(alloc, "@session 2", second, "@order 2");
+        assert!(rt; has_fault(draft, line, want), "{second}");
+    }
+    Ok(())
+}
+
+// The draft behind `@setup` and a text, where all has to be built.
+fn text_read(alloc: Global, text: &[u8]) -> Result<Draft, ScriptFault> {
+    if text.len() > 1000 {
+        return Err(ScriptFault::Memory);
+    }
+    let mark = LineMark { place: 0, line: 1 };
+    match Draft::new(alloc).read_directive(alloc, 1, &Directive::Setup) {
+        Ok(draft) => draft.read_text(alloc, text, mark, text.len()),
+        Err(fault) => Err(fault),
+    }
+}
+
+#[test]
+fn texts_read(rt: HostRuntime) -> Result<(), Fail> {
+    let alloc = rt.alloc();
+    let table = [
+        (
+            "CREATE TABLE T (A NUMBER(3));\nINSERT INTO T VALUES (1), (2);\n",
+            0,
+            None,
+        ),
+        ("CREATE TABLE T (A NUMBER(3))", 0, None),
+        (" -- nothing\n", 0, None),
+        ("INSERT INTO T VALUES (1);\n", 1, Some(ScriptKind::NotBuilt)),
+        (
+            "CREATE TABLE T (A NUMBER(3));\nBEGIN;\n^",
+            2,
+            Some(ScriptKind::NotBuilt),
+        ),
+        (
+            "CREATE TABLE T (A NUMBER(3));\n\nSELECT FROM T;\nSHOW;\n",
+            3,
+            Some(ScriptKind::Syntax),
+        ),
+        (
+            "CREATE TABLE T (A NUMBER(3));\nSELECT\n^\n;",
+            3,
+            Some(ScriptKind::BadCharacter),
+        ),
+        (
+            "CREATE TABLE T (A NUMBER(3));\n'x\n",
+            2,
+            Some(ScriptKind::OpenQuote),
+        ),
+    ];
+    for (text, line, want) in table {
+        assert!(rt;
+            has_fault(text_read(alloc, text.as_bytes()), line, want),
+            "{text}"
+        );
+    }
+    Ok(())
+}
+
+#[test]
+fn parts_read(rt: HostRuntime) -> Result<(), Fail> {
+    let alloc = rt.alloc();
+    let draft = Draft::new(alloc).read_directive(alloc, 1, &Directive::Session(b"1"));
+    assert!(rt; has_fault(draft, 1, Some(ScriptKind::NotBuilt)));
+    match (
+        Draft::new(alloc).read_directive(alloc, 1, &Directive::Setup),
+        Txt::from_slice(alloc, b"T"),
+    ) {
+        (Ok(draft), Ok(name)) => {
+            let draft = draft.read_load(alloc, 2, name, b"1\n2,3\n", true);
+            assert!(rt; has_fault(draft, 2, Some(ScriptKind::LoadShape)));
         }
-        match draft {
-            Ok(_) => assert!(rt; want.is_none(), "{third}"),
-            Err(ScriptFault::Bad(bad)) => {
-                assert_eq!(rt; bad.line, line);
-                assert!(rt; want == Some(bad.kind), "{third}");
-            }
-            Err(ScriptFault::Memory) => assert!(rt; false),
-        }
+        _ => assert!(rt; false),
+    }
+    match Draft::new(alloc).read_directive(alloc, 1, &Directive::Setup) {
+        Ok(draft) => match draft.into_script(alloc) {
+            Ok(script) => assert_eq!(rt; script.sections.len(), 1),
+            Err(_) => assert!(rt; false),
+        },
+        Err(_) => assert!(rt; false),
     }
     Ok(())
 }
