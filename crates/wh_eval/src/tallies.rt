@@ -91,7 +91,7 @@ impl Tally {
 
     /// One more row of the group.
     #[tactic(auto, using(crate::proofs::Small::small_rows))]
-    fn with(self, row: &Seq<Value>) -> Tally
+    fn with(self, row: &[Value]) -> Tally
         requires room { HasRoom self }
         requires small { IsSmallRow row.now }
         ensures { result ≡ tally_with row.now self }
@@ -143,7 +143,7 @@ impl Tallies {
     }
 
     /// One more row of the group.
-    pub fn add(&mut self, row: &Seq<Value>)
+    pub fn add(&mut self, row: &[Value])
         requires room { All HasRoom self.old }
         requires small { IsSmallRow row.now }
         ensures { self.new ≡ map (tally_with row.now) self.old }
