@@ -1,0 +1,4 @@
+-- Which places are absent after some were added.
+use Rattle.std.specs.FinMap as fin
+
+pub ruleset absent = fin.gets

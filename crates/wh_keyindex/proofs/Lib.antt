@@ -1,0 +1,5 @@
+pub mod Absent
+pub mod Looked
+pub mod Numbered
+pub mod Placed
+pub mod Tallied

@@ -1,0 +1,5 @@
+pub mod Children
+pub mod Kept
+pub mod Keyed
+pub mod Marks
+pub mod Tied

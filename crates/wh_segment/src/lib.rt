@@ -1,0 +1,15 @@
+//! The versions of the rows of a table, in chunks that copies share.
+#![tactic(auto)]
+
+mod chunk;
+mod chunk_list;
+mod meaning;
+mod segment;
+mod version;
+
+pub use meaning::laws;
+pub use segment::Segment;
+pub use version::Version;
+
+#[cfg(test)]
+mod tests;
