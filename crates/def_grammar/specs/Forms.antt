@@ -1,12 +1,11 @@
 -- The grammar of the statements. Each rule stands below its line of the grammar, as for a SELECT.
 use Rattle.std.specs.List.{list_all, list_any}
-use Rattle.std.specs.Prelude.{Bool, Err, List, None, Ok, Option, Result, Some, [], codes, cond, count_by, false, flat_map, is_none, length, nat_le, neg_ℤ, not, option_map, pos, take, true, ℕ, ◌&&◌, ◌-◌, ◌==◌, ◌||◌, ◌∷◌, ◌≡◌}
+use Rattle.std.specs.Prelude.{Bool, Err, List, None, Ok, Option, Result, Some, [], codes, cond, count_by, false, flat_map, is_none, length, nat_le, neg_ℤ, not, option_map, pos, take, true, ℕ, ◌&&◌, ◌-◌, ◌==◌, ◌||◌, ◌∷◌}
 use Rattle.wh_base.specs.Lists.{option_case, where_true}
 use Rattle.wh_base.specs.declared.queries.ColName.{ColName}
 use Rattle.wh_base.specs.declared.queries.NamePart.{NamePart}
 use Rattle.wh_base.specs.declared.queries.NamePart.TheVariants.{MarkName, Plain, RowIdName}
 use Rattle.wh_base.specs.declared.queries.RawCondition.{RawCondition}
-use Rattle.wh_base.specs.declared.queries.RawQuery.{RawQuery}
 use Rattle.wh_base.specs.declared.statements.Asked.{Asked}
 use Rattle.wh_base.specs.declared.statements.ColumnMark.{ColumnMark}
 use Rattle.wh_base.specs.declared.statements.JoinKey.{JoinKey}
@@ -471,13 +470,3 @@ statement = mapped Select asked or dml or create_table or alter_table or log or 
 -- the statement that all of the tokens are
 abbrev pub statement_of : List Token → Option Statement
 statement_of ts = whole statement ts
-
--- ---- canonical text
-
--- the query is one that the grammar gives for some tokens
-abbrev pub IsWritten : RawQuery → Type 0
-IsWritten q = (ts : List Token) × (whole select ts ≡ Some q)
-
--- the text reads as this query
-abbrev pub ReadsAs : List ℕ → RawQuery → Type 0
-ReadsAs text q = whole select (text_tokens text) ≡ Some q

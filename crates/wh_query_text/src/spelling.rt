@@ -40,8 +40,9 @@ fn push_quoted(out: &mut Vec<u8>, text: &[u8]) -> Result<(), AllocError>
     Ok(())
 }
 
-// The text with each quote doubled.
-fn push_doubled(out: &mut Vec<u8>, text: &[u8]) -> Result<(), AllocError>
+/// The text with each quote doubled, at the end of `out`, as it stands between the quotes of a literal. An error says that
+/// memory ran out.
+pub fn push_doubled(out: &mut Vec<u8>, text: &[u8]) -> Result<(), AllocError>
     ensures { OnOk result (out.new.items ≡ out.old.items ++ flat_map doubled text.now) }
 {
     for byte in text {

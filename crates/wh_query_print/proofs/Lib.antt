@@ -1,0 +1,12 @@
+mod Decimal
+mod Fronts
+mod Marks
+mod Laid
+mod Spelled
+mod Sound
+mod Rules
+mod Begun
+mod ReadBack
+mod ReadQuery
+mod PlainTokens
+mod Back
