@@ -10,7 +10,7 @@ use wh_base::txt::Txt;
 use wh_io::{MemorySink, MemorySource};
 
 #[derive(Drop)]
-struct Mark;
+pub(crate) struct Mark;
 
 const COUNTERS: usize = 65;
 
