@@ -1,10 +1,9 @@
 -- The tokens of a text before its first fault.
-use Rattle.std.proofs.Common.{◌≡◌, ℕ, ◌+◌, ◌-◌, ◌<◌, ◌≤◌, suc, zero, Bool, true, false, cond, List, [], ◌∷◌, ◌++◌, length, drop, take, refl, ap, ◌∙◌, sym, subst, arith, Option, Some, None, Result, Ok, Err, append_assoc, append-nil, length-drop, ◌&&◌}
-use Rattle.std.proofs.Math.ListN.{drop_of_length-le}
+use Rattle.std.proofs.Common.{◌≡◌, ℕ, ◌+◌, ◌-◌, ◌<◌, ◌≤◌, suc, zero, Bool, true, false, cond, List, [], ◌∷◌, ◌++◌, length, drop, take, refl, ap, ◌∙◌, sym, subst, arith, Some, None, Result, Ok, Err, length-drop}
 use Rattle.std.proofs.lemmas.List.{drop-drop}
 use Rattle.std.proofs.lemmas.Bool.Decides.{nat_tests}
 use Rattle.std.specs.List.{list_all}
-use Rattle.std.specs.Prelude.{◌==◌, not, option_to_list, slice_index}
+use Rattle.std.specs.Prelude.{◌==◌, not, option_to_list}
 use Rattle.def_grammar.specs.Script.{fault_place}
 use Rattle.wh_lex.specs.Lex.{after, closed_by, ends_statement, in_statement, is_semicolon, statement_at, statement_from, token_at, tokens_from, with_front, with_tokens}
 use Rattle.wh_lex.specs.Tokens.{front_of}

@@ -1,8 +1,8 @@
 -- What stands at the front of a text stands there too where the text is cut off behind it.
-use Rattle.std.proofs.Common.{◌≡◌, ◌≢◌, ℕ, ◌+◌, ◌-◌, ◌<◌, ◌≤◌, suc, zero, Bool, true, false, cond, ltb, eqb, List, [], ◌∷◌, length, drop, take, refl, ap, ◌∙◌, sym, subst, arith, Option, Some, None, ◌&&◌, ◌||◌, length-take}
+use Rattle.std.proofs.Common.{◌≡◌, ◌≢◌, ℕ, ◌+◌, ◌<◌, ◌≤◌, suc, zero, Bool, true, false, cond, List, [], ◌∷◌, length, take, refl, ap, ◌∙◌, sym, subst, arith, Option, Some, None, ◌&&◌}
 use Rattle.std.specs.Char.{is_ascii_digit, to_ascii_uppercase}
 use Rattle.std.specs.List.{prefix_len}
-use Rattle.std.specs.Prelude.{◌==◌, map, min, nat_lt, not, slice_index, take_while}
+use Rattle.std.specs.Prelude.{◌==◌, map, nat_lt, not, slice_index, take_while}
 use Rattle.std.proofs.lemmas.Bool.Decides.{nat_tests}
 use Rattle.std.proofs.lemmas.List.{take-take}
 use Rattle.std.proofs.lemmas.List.Folds.{length-prefix_len}

@@ -1,5 +1,5 @@
 -- The steps of a draft.
-use Rattle.std.proofs.Common.{◌≡◌, ℕ, List, None, Result, Some, refl}
+use Rattle.std.proofs.Common.{◌≡◌, ℕ, List, None, Result, Some}
 use Rattle.def_grammar.specs.Script.{Draft, OpenBlockAt, take_closed, take_inner}
 use Rattle.wh_lex.specs.declared.token.Token.{Token}
 use Rattle.wh_script.specs.Sections.{Gives}

@@ -1,9 +1,8 @@
 -- The ends of lines.
-use Rattle.std.proofs.Common.{◌≡◌, ℕ, ◌+◌, ◌-◌, ◌<◌, suc, List, [], ◌∷◌, length, drop, take, get_or, Bool, true, false, Some, None, cond, refl, ap, ◌∙◌, arith, ◌&&◌, ◌||◌, add-zero}
-use Rattle.std.proofs.lemmas.List.{drop_more, get_or-drop}
-use Rattle.std.specs.Prelude.{◌==◌, not}
+use Rattle.std.proofs.Common.{◌≡◌, ℕ, ◌-◌, ◌<◌, suc, List, [], ◌∷◌, length, take, get_or, false, refl, ap, arith}
+use Rattle.std.specs.Prelude.{◌==◌}
 use Rattle.def_grammar.specs.Lines.{before_last}
-use Rattle.wh_base.specs.Lists.{last, option_nat_is, where_true}
+use Rattle.wh_base.specs.Lists.{last, option_nat_is}
 
 pub before_last-take : (xs : List ℕ) → before_last xs ≡ take (length xs - 1) xs
 before_last-take [] = refl

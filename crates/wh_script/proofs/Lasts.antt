@@ -1,5 +1,5 @@
 -- The last section.
-use Rattle.std.proofs.Common.{◌≡◌, ℕ, List, [], ◌∷◌, ◌++◌, Option, Some, None, refl, ap, sym, ◌∙◌, append-nil}
+use Rattle.std.proofs.Common.{◌≡◌, List, [], ◌∷◌, ◌++◌, Some, refl, ap, sym, append-nil}
 use Rattle.std.specs.Prelude.{option_map}
 use Rattle.wh_base.specs.Lists.{last}
 use Rattle.wh_base.specs.declared.statements.Section.{Section}

@@ -1,9 +1,9 @@
 -- The words of an order, the parts of a session, and how often each is named.
-use Rattle.std.proofs.Common.{◌≡◌, ℕ, ◌<◌, ◌≤◌, ◌+◌, suc, zero, List, [], ◌∷◌, ◌++◌, length, Bool, true, false, Option, Some, None, cond, refl, ap, sym, subst, ◌∙◌, arith, append-nil, append_assoc, ◌⊎◌, get_or, inl, inr, Result, Ok, Err}
+use Rattle.std.proofs.Common.{◌≡◌, ℕ, ◌<◌, ◌+◌, suc, zero, List, [], ◌∷◌, ◌++◌, length, Bool, true, false, Some, None, cond, refl, ap, sym, subst, ◌∙◌, arith, append-nil, append_assoc, ◌⊎◌, get_or, inl, inr, Result, Err}
 use Rattle.std.proofs.lemmas.Bool.{ltb-true}
 use Rattle.std.proofs.lemmas.Bool.Decides.{nat_tests}
 use Rattle.std.specs.List.{enumerate_from, list_any}
-use Rattle.std.specs.Prelude.{◌==◌, ◌&&◌, ◌||◌, count_by, flat_map, is_none, map, nat_lt, not, option_to_list}
+use Rattle.std.specs.Prelude.{◌==◌, ◌&&◌, ◌||◌, count_by, flat_map, is_none, map, not, option_to_list}
 use Rattle.def_grammar.specs.Lines.{words_in}
 use Rattle.def_grammar.specs.Script.{Draft, bad, is_section_of, is_too_long, is_unknown, order_by, order_fault, parts_in, sections_of, session_number, with_order}
 use Rattle.wh_base.specs.Lists.{count_from, unless}

@@ -1,5 +1,5 @@
 -- The records of a block, one read after another.
-use Rattle.std.proofs.Common.{◌≡◌, ℕ, ◌<◌, ◌≤◌, ◌+◌, ◌-◌, suc, List, [], ◌∷◌, ◌++◌, length, Bool, true, false, Option, Some, None, refl, ap, sym, ◌∙◌, arith, cond, append-nil, append_assoc, subst, Bor, get_or, zero, option_map}
+use Rattle.std.proofs.Common.{◌≡◌, ℕ, ◌<◌, suc, List, [], ◌∷◌, ◌++◌, length, true, false, Option, Some, None, refl, ap, sym, ◌∙◌, arith, append-nil, append_assoc, subst, Bor, get_or, zero, option_map}
 use Rattle.csv.specs.Machine.{Read, next_record}
 use Rattle.csv.specs.Reading.{NextIs, ReadsNext, default_config}
 use Rattle.csv.specs.Records.{field_at}

@@ -1,12 +1,12 @@
 -- The rows that the commands of a section insert, and whether one command more is built.
-use Rattle.std.proofs.Common.{◌≡◌, ℕ, ◌+◌, ◌<◌, ◌≤◌, suc, List, [], ◌∷◌, ◌++◌, length, Bool, true, false, refl, ap, sym, subst, ◌∙◌, arith, ◌&&◌}
+use Rattle.std.proofs.Common.{◌≡◌, ℕ, ◌+◌, ◌<◌, List, [], ◌∷◌, ◌++◌, length, Bool, true, false, refl, ap, sym, subst, ◌∙◌, arith, ◌&&◌}
 use Rattle.std.proofs.lemmas.Bool.Decides.{nat_tests}
 use Rattle.std.proofs.lemmas.List.Sums.{sum_by-append}
 use Rattle.std.specs.List.{list_all}
 use Rattle.std.specs.Prelude.{min, nat_le, sum_by}
 use Rattle.def_built.specs.Commands.{commands_are_built, first_is_built, later_is_built, most_rows, rows_inserted}
 use Rattle.wh_base.specs.declared.statements.Command.{Command}
-use Rattle.wh_script.specs.Built.{but_last, rows_behind_first, rows_kept}
+use Rattle.wh_script.specs.Built.{but_last, rows_kept}
 
 rows_more : (cs : List Command) (c : Command) → sum_by rows_inserted (cs ++ c ∷ []) ≡ sum_by rows_inserted cs + rows_inserted c
 rows_more cs c = sum_by-append rows_inserted cs (c ∷ []) ∙ omega arith

@@ -1,5 +1,5 @@
 -- The words between spaces, one after another.
-use Rattle.std.proofs.Common.{◌≡◌, ℕ, ◌≤◌, ◌<◌, ◌+◌, suc, List, [], ◌∷◌, length, drop, take, Bool, true, false, cond, refl, ap, sym, subst, zero, ◌∙◌, arith}
+use Rattle.std.proofs.Common.{◌≡◌, ℕ, ◌<◌, suc, List, [], ◌∷◌, length, drop, take, Bool, true, false, cond, refl, ap, sym, subst, zero, ◌∙◌, arith}
 use Rattle.std.proofs.lemmas.List.Sums.{take_while-cons}
 use Rattle.std.specs.Prelude.{◌==◌, filter, not, take_while}
 use Rattle.def_grammar.specs.Lines.{onto_first, split_spaces, words_in}

@@ -1,5 +1,5 @@
 -- The statements of a text, one after another.
-use Rattle.std.proofs.Common.{◌≡◌, ℕ, ◌+◌, ◌-◌, ◌<◌, ◌≤◌, suc, zero, List, [], ◌∷◌, ◌++◌, length, drop, take, Bool, true, false, Option, Some, None, Result, Ok, Err, cond, refl, ap, sym, subst, ◌∙◌, arith, ◌&&◌, append_assoc, append-nil, length-drop, length-take}
+use Rattle.std.proofs.Common.{◌≡◌, ℕ, ◌+◌, ◌-◌, ◌<◌, ◌≤◌, List, [], ◌∷◌, ◌++◌, length, drop, take, Bool, true, false, Option, Some, None, Result, Ok, Err, refl, ap, sym, subst, ◌∙◌, arith, ◌&&◌, append_assoc, append-nil, length-take}
 use Rattle.std.proofs.Math.ListN.{drop_of_length-le}
 use Rattle.std.proofs.lemmas.List.{drop-take, take-take}
 use Rattle.std.specs.List.{list_all}
@@ -10,7 +10,6 @@ use Rattle.def_grammar.specs.Reading.{same_token_kind}
 use Rattle.def_grammar.specs.Script as script
 use Rattle.def_grammar.specs.Script.{Draft, Element, Stated, Unreadable, bad, elements_by, fault_element, fault_place, line_at, read_from, split_statements, statement_place, take_statement, text_elements, unclosed, where_built}
 use Rattle.wh_base.specs.Lists.{first_some, head, option_case, same_text}
-use Rattle.wh_base.specs.declared.statements.BadScript.{BadScript}
 use Rattle.wh_base.specs.declared.statements.ScriptKind.{ScriptKind}
 use Rattle.wh_base.specs.declared.statements.ScriptKind.TheVariants as script_kinds
 use Rattle.wh_lex.specs.Lex.{IsClosed, IsFaultOf, IsStatement, ends_statement, statement_at, tokens_at, tokens_from, with_front}

@@ -1,10 +1,10 @@
 -- What is asked of one more step of a draft, where what was read before it is built.
-use Rattle.def_built.specs.Commands.{first_is_built, later_is_built, most_rows, rows_inserted}
+use Rattle.def_built.specs.Commands.{most_rows, rows_inserted}
 use Rattle.def_built.specs.Form.{sections_are_built}
 use Rattle.def_built.specs.Forms.{is_built}
 use Rattle.def_built.specs.declared.forms.Form.TheVariants as forms
 use Rattle.def_grammar.specs.Script.{Draft}
-use Rattle.std.specs.Prelude.{◌&&◌, ◌||◌, ◌==◌, ◌+◌, ◌++◌, ◌∷◌, ◌≡◌, Bool, List, None, Option, Some, [], min, nat_le, sum_by, true, ℕ}
+use Rattle.std.specs.Prelude.{◌&&◌, ◌||◌, ◌==◌, ◌+◌, ◌++◌, ◌∷◌, ◌≡◌, Bool, List, None, Option, Some, [], min, sum_by, true, ℕ}
 use Rattle.wh_base.specs.Lists.{is_empty}
 use Rattle.wh_base.specs.declared.statements.Command.{Command}
 use Rattle.wh_base.specs.declared.statements.Section.{Section}

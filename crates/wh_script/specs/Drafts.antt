@@ -1,6 +1,6 @@
 -- How the code takes the steps of a script's reading, beside the steps' own definitions.
 use Rattle.std.specs.List.{list_any}
-use Rattle.std.specs.Prelude.{Bool, List, None, Option, Some, [], cond, flat_map, is_none, map, not, option_map, option_to_list, ℕ, ◌&&◌, ◌++◌, ◌==◌}
+use Rattle.std.specs.Prelude.{Bool, List, None, Option, Some, cond, flat_map, is_none, map, not, option_map, option_to_list, ℕ, ◌&&◌, ◌++◌, ◌==◌}
 use Rattle.def_grammar.specs.Script as script
 use Rattle.def_grammar.specs.Script.{Draft, is_too_long, session_number}
 use Rattle.wh_base.specs.Lists.{is_empty, last}

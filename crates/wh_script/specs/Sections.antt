@@ -1,5 +1,5 @@
 -- How what the code reads of a script has to do with its definition.
-use Rattle.std.specs.Prelude.{Bool, Err, List, None, Ok, Option, Result, Some, [], cond, decimal, filter, is_none, length, nat_le, not, take_while, ℕ, ◌&&◌, ◌==◌, ◌+◌, ◌-◌, ◌*◌, ◌<◌, ◌^◌, ◌∷◌, ◌≡◌}
+use Rattle.std.specs.Prelude.{Bool, Err, List, None, Ok, Option, Result, Some, [], decimal, length, nat_le, not, take_while, ℕ, ◌&&◌, ◌==◌, ◌+◌, ◌-◌, ◌*◌, ◌<◌, ◌^◌, ◌∷◌, ◌≡◌}
 use Rattle.def_grammar.specs.Lines as defs
 use Rattle.def_grammar.specs.Lines.{content_of, directive_by_words, words_in}
 use Rattle.wh_base.specs.Lists.{same_text, where_true}

@@ -22,8 +22,8 @@ use wh_lex::lex::StatementTokens;
 impl Draft {
     /// The draft behind the statements of the text that runs from a mark up to `end`, without what stands behind it.
     ///
-    /// `Bad` is the first fault of the text, as `TextAt::next` has it. `Memory` says that memory ran out. Each byte is read
-    /// twice at most but for those in front of a byte that can't be read, so the time is that of the text.
+    /// `Bad` is the first fault of the text, as `TextAt::next` has it. `Memory` says that memory ran out. The time is that of
+    /// the text: each statement is lexed once, and the one before a byte that can't be read twice.
     pub fn read_text(
         self,
         alloc: Global,

@@ -1,3 +1,7 @@
+ghost use Rattle.def_built.specs.Form.{draft_is_built};
+ghost use Rattle.std.specs.Prelude.{◌≡◌, IfOk, true};
+
+use crate::built::command_form;
 use crate::draft::Draft;
 use crate::fault::ScriptFault;
 use crate::lines::{
@@ -5,9 +9,11 @@ use crate::lines::{
 };
 use crate::load::{is_uneven, records};
 use crate::order::order_numbers;
+use def_built::forms::Form;
 use std::alloc::Global;
 use std::test::Fail;
-use wh_base::statements::ScriptKind;
+use wh_base::seq::Seq;
+use wh_base::statements::{Block, Command, ScriptKind};
 use wh_base::txt::Txt;
 use wh_lex::lex::statement_tokens;
 
@@ -250,13 +256,20 @@ fn loads_taken(rt: HostRuntime) -> Result<(), Fail> {
     Ok(())
 }
 
+// The draft behind `@setup`.
+fn set_up(alloc: Global) -> Result<Draft, ScriptFault>
+    ensures { IfOk result (λ d. draft_is_built d ≡ true) }
+{
+    Draft::new(alloc).read_directive(alloc, 1, &Directive::Setup)
+}
+
 // The draft behind `@setup` and a text, where all has to be built.
 fn text_read(alloc: Global, text: &[u8]) -> Result<Draft, ScriptFault> {
     if text.len() > 1000 {
         return Err(ScriptFault::Memory);
     }
     let mark = LineMark { place: 0, line: 1 };
-    match Draft::new(alloc).read_directive(alloc, 1, &Directive::Setup) {
+    match set_up(alloc) {
         Ok(draft) => draft.read_text(alloc, text, mark, text.len()),
         Err(fault) => Err(fault),
     }
@@ -267,64 +280,74 @@ fn texts_read(rt: HostRuntime) -> Result<(), Fail> {
     let alloc = rt.alloc();
     let table = [
         (
-            "CREATE TABLE T (A NUMBER(3));\nINSERT INTO T VALUES (1), (2);\n",
+            "\nINSERT INTO T VALUES (1), (2);\nSELECT A, SUM(A) FROM T GROUP BY A;",
             0,
             None,
         ),
-        ("CREATE TABLE T (A NUMBER(3))", 0, None),
         (" -- nothing\n", 0, None),
-        ("INSERT INTO T VALUES (1);\n", 1, Some(ScriptKind::NotBuilt)),
+        ("\nINSERT INTO T VALUES (1)", 0, None),
+        ("\nBEGIN;\n^", 2, Some(ScriptKind::NotBuilt)),
         (
-            "CREATE TABLE T (A NUMBER(3));\nBEGIN;\n^",
-            2,
-            Some(ScriptKind::NotBuilt),
-        ),
-        (
-            "CREATE TABLE T (A NUMBER(3));\n\nSELECT FROM T;\nSHOW;\n",
+            "\n\nSELECT FROM T;\nSHOW LOG T;\n",
             3,
             Some(ScriptKind::Syntax),
         ),
-        (
-            "CREATE TABLE T (A NUMBER(3));\nSELECT\n^\n;",
-            3,
-            Some(ScriptKind::BadCharacter),
-        ),
-        (
-            "CREATE TABLE T (A NUMBER(3));\n'x\n",
-            2,
-            Some(ScriptKind::OpenQuote),
-        ),
+        ("\nSELECT\n^\n;", 3, Some(ScriptKind::BadCharacter)),
+        ("\n'x\n", 2, Some(ScriptKind::OpenQuote)),
     ];
     for (text, line, want) in table {
-        assert!(rt;
-            has_fault(text_read(alloc, text.as_bytes()), line, want),
-            "{text}"
-        );
+        let mut bytes = Vec::from_slice(alloc, b"CREATE TABLE T (A NUMBER(3));")?;
+        bytes.extend_from_slice(text.as_bytes())?;
+        assert!(rt; has_fault(text_read(alloc, &bytes), line, want), "{text}");
     }
+    assert!(rt; has_fault(text_read(alloc, b";"), 1, Some(ScriptKind::Syntax)));
     Ok(())
+}
+
+// The draft behind a text outside every section.
+fn text_alone(alloc: Global, text: &[u8]) -> Result<Draft, ScriptFault> {
+    if text.len() > 100 {
+        return Err(ScriptFault::Memory);
+    }
+    let mark = LineMark { place: 0, line: 1 };
+    Draft::new(alloc).read_text(alloc, text, mark, text.len())
+}
+
+// The draft behind `@setup` and an uneven LOAD block.
+fn load_read(alloc: Global) -> Result<Draft, ScriptFault> {
+    let Ok(name) = Txt::from_slice(alloc, b"T") else {
+        return Err(ScriptFault::Memory);
+    };
+    match set_up(alloc) {
+        Ok(draft) => draft.read_load(alloc, 2, name, b"1\n2,3\n", true),
+        Err(fault) => Err(fault),
+    }
 }
 
 #[test]
 fn parts_read(rt: HostRuntime) -> Result<(), Fail> {
     let alloc = rt.alloc();
-    let draft = Draft::new(alloc).read_directive(alloc, 1, &Directive::Session(b"1"));
-    assert!(rt; has_fault(draft, 1, Some(ScriptKind::NotBuilt)));
-    match (
-        Draft::new(alloc).read_directive(alloc, 1, &Directive::Setup),
-        Txt::from_slice(alloc, b"T"),
-    ) {
-        (Ok(draft), Ok(name)) => {
-            let draft = draft.read_load(alloc, 2, name, b"1\n2,3\n", true);
-            assert!(rt; has_fault(draft, 2, Some(ScriptKind::LoadShape)));
-        }
-        _ => assert!(rt; false),
-    }
-    match Draft::new(alloc).read_directive(alloc, 1, &Directive::Setup) {
+    let word = b"1".as_slice();
+    let session = Draft::new(alloc).read_directive(alloc, 1, &Directive::Session(word));
+    assert!(rt; has_fault(session, 1, Some(ScriptKind::NotBuilt)));
+    assert!(rt; has_fault(load_read(alloc), 2, Some(ScriptKind::LoadShape)));
+    assert!(rt;
+        has_fault(
+            text_alone(alloc, b"\nSELECT ^"),
+            2,
+            Some(ScriptKind::Misplaced)
+        )
+    );
+    match set_up(alloc) {
         Ok(draft) => match draft.into_script(alloc) {
             Ok(script) => assert_eq!(rt; script.sections.len(), 1),
             Err(_) => assert!(rt; false),
         },
         Err(_) => assert!(rt; false),
     }
+    let block = Command::Block(Block {
+        statements: Seq::new(alloc),
+    });
+    assert!(rt; matches!(command_form(&block), Form::Block));
     Ok(())
 }

@@ -1,7 +1,5 @@
-use Rattle.std.proofs.Common.{Bor, List, ℕ, ◌≡◌, ◌∙◌, ◌+◌, ◌-◌, ◌++◌, ap, append_assoc, arith, false, inl, inr, length, refl, rules, subst, suc, sym, true, Some, ◌∷◌, []}
+use Rattle.std.proofs.Common.{ℕ, ◌≡◌, ◌∙◌, ◌+◌, ◌-◌, arith, inl, inr, length, refl, suc}
 use Rattle.csv.specs.Reading.{strip_bom}
-use Rattle.csv.specs.Records.{fields_of}
-use Rattle.def_grammar.specs.Script.{records, records_from}
 use Rattle.wh_script.proofs.Records.{records-found, records-none, step-found, step-none}
 use Rattle.wh_script.proofs.load.records.Goals as goal
 

@@ -1,4 +1,4 @@
-use Rattle.std.proofs.Common.{◌≡◌, ◌∙◌, sym, true}
+use Rattle.std.proofs.Common.{◌∙◌, sym}
 use Rattle.wh_script.proofs.Orders.{any_at}
 use Rattle.wh_script.specs.Drafts.{is_named_too_often}
 use Rattle.wh_script.proofs.order.has_section_too_often.Goals as goal
