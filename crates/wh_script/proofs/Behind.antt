@@ -1,5 +1,5 @@
 -- What stands behind the end of a script, and a script without an end.
-use Rattle.std.proofs.Common.{◌≡◌, ℕ, ◌≤◌, ◌<◌, ◌+◌, ◌-◌, suc, zero, List, [], ◌∷◌, length, drop, take, get_or, Bool, true, false, Option, Some, None, cond, is_none, refl, ap, sym, ◌∙◌, arith, ◌&&◌, ◌||◌, add-zero, max}
+use Rattle.std.proofs.Common.{◌≡◌, ℕ, ◌≤◌, ◌<◌, ◌+◌, ◌-◌, suc, List, [], ◌∷◌, length, drop, get_or, Bool, true, false, Option, Some, None, cond, is_none, refl, ap, sym, ◌∙◌, arith, ◌&&◌, ◌||◌, add-zero, max}
 use Rattle.std.proofs.lemmas.List.{drop_all, drop_more, get_or-drop}
 use Rattle.std.proofs.lemmas.Str.{utf8_valid_len_le, utf8_valid_len-IsUtf8}
 use Rattle.std.specs.Prelude.{◌==◌, count_by, not, unwrap_or}
@@ -7,7 +7,7 @@ use Rattle.def_built.specs.Form.{draft_is_built, script_is_built, sections_are_b
 use Rattle.def_built.specs.Forms.{is_built}
 use Rattle.def_built.specs.declared.forms.Form.TheVariants as forms
 use Rattle.def_grammar.specs.Lines.{lines_of, before_last, onto_first, placed_lines, raw_lines}
-use Rattle.def_grammar.specs.Script.{Draft, finish, first_black, is_white, line_at, sections_of}
+use Rattle.def_grammar.specs.Script.{Draft, first_black, is_white, line_at, sections_of}
 use Rattle.wh_base.specs.Lists.{is_empty, where_true}
 use Rattle.wh_base.specs.declared.statements.Script.{Script}
 use Rattle.wh_script.proofs.Counts.{count_by-append}

@@ -1,12 +1,12 @@
 -- The lines from a place on, and the run of text before the first that begins with @.
-use Rattle.std.proofs.Common.{◌≡◌, ℕ, ◌≤◌, ◌<◌, ◌+◌, ◌-◌, suc, zero, List, [], ◌∷◌, ◌++◌, length, drop, take, Bool, true, false, Some, cond, refl, ap, sym, ◌∙◌, arith, ◌&&◌, add-zero, subst, length-append, length-drop, append-nil}
+use Rattle.std.proofs.Common.{◌≡◌, ℕ, ◌≤◌, ◌<◌, ◌+◌, ◌-◌, suc, zero, List, [], ◌∷◌, ◌++◌, length, drop, take, Bool, true, false, Some, cond, refl, ap, sym, ◌∙◌, arith, ◌&&◌, subst, length-drop}
 use Rattle.std.proofs.Math.Seq.{take-add}
-use Rattle.std.proofs.lemmas.List.{drop-drop, drop_all, length-take-le, take_all}
+use Rattle.std.proofs.lemmas.List.{drop-drop, drop_all, length-take-le}
 use Rattle.std.specs.Prelude.{◌==◌, count_by}
-use Rattle.def_grammar.specs.Lines.{Directive, DirectiveAt, EndAt, EndLoad, EndScript, InLoad, InText, Line, LoadBlock, LoadOf, Order, Piece, SessionAt, Setup, TextRun, Unknown, directive_on, directive_piece, is_directive, load_piece, onto_first, pieces_from, placed_lines, raw_lines, text_onto}
+use Rattle.def_grammar.specs.Lines.{Directive, DirectiveAt, EndAt, EndLoad, EndScript, InLoad, Line, LoadBlock, LoadOf, Order, Piece, SessionAt, Setup, TextRun, Unknown, directive_on, directive_piece, load_piece, onto_first, pieces_from, placed_lines, raw_lines, text_onto}
 use Rattle.def_grammar.specs.Script.{line_at}
 use Rattle.wh_base.specs.Lists.{head, option_nat_is}
-use Rattle.wh_script.proofs.Counts.{count_by-append, count_by-between}
+use Rattle.wh_script.proofs.Counts.{count_by-append}
 use Rattle.wh_script.specs.Pieces.{behind_line, block_len, is_closing, line_len, line_of, lines_at, pieces_at, text_len}
 
 -- ---- the length of a line

@@ -1,14 +1,14 @@
 -- The lines of a LOAD block, and the bytes behind the end.
-use Rattle.std.proofs.Common.{◌≡◌, ℕ, ◌≤◌, ◌<◌, ◌+◌, ◌-◌, suc, zero, List, [], ◌∷◌, ◌++◌, length, drop, take, Bool, true, false, cond, refl, ap, sym, ◌∙◌, arith, subst, append_assoc, append-nil}
+use Rattle.std.proofs.Common.{◌≡◌, ℕ, ◌≤◌, ◌<◌, ◌+◌, ◌-◌, suc, zero, List, [], ◌∷◌, ◌++◌, length, drop, take, Bool, true, false, cond, refl, ap, sym, ◌∙◌, arith, append_assoc, append-nil}
 use Rattle.std.proofs.Math.Seq.{take-add}
 use Rattle.std.proofs.lemmas.List.{drop-drop, drop_all, length-drop, take-append-drop}
 use Rattle.std.proofs.lemmas.Bool.Decides.{nat_tests}
 use Rattle.std.proofs.lemmas.List.Concat.{length-flat_map}
 use Rattle.std.specs.Prelude.{nat_lt}
-use Rattle.def_grammar.specs.Lines.{InLoad, InText, Line, LoadBlock, load_piece, pieces_from, raw_lines}
+use Rattle.def_grammar.specs.Lines.{InLoad, InText, Line, LoadBlock, load_piece, pieces_from}
 use Rattle.def_grammar.specs.Script.{block_bytes, size_of}
-use Rattle.wh_script.proofs.LineRuns.{block_len-end, block_len-first, length_of_line, line_len-le, line_len-some, lines_at-end, lines_at-first}
-use Rattle.wh_script.specs.Pieces.{before_closing, behind_closing, behind_line, block_at, block_len, is_closed, is_closing, line_len, line_of, lines_at}
+use Rattle.wh_script.proofs.LineRuns.{block_len-end, block_len-first, line_len-some, lines_at-end, lines_at-first}
+use Rattle.wh_script.specs.Pieces.{before_closing, behind_closing, behind_line, block_at, is_closed, is_closing, line_len, line_of, lines_at}
 
 -- a block is one piece
 pub pieces-load : (ls : List Line) (d : Line) (n : List ℕ) (done : List Line) → pieces_from ls (InLoad d n done) ≡ LoadBlock d n (done ++ before_closing ls) (is_closed ls) ∷ pieces_from (behind_closing ls) InText

@@ -1,16 +1,16 @@
 -- The elements of a script piece by piece, and what a draft is behind them.
-use Rattle.std.proofs.Common.{◌≡◌, ℕ, ◌≤◌, ◌<◌, ◌+◌, ◌-◌, suc, zero, List, [], ◌∷◌, ◌++◌, length, drop, take, min, Bool, true, false, Result, Ok, Err, cond, refl, ap, sym, ◌∙◌, arith, subst, append_assoc}
+use Rattle.std.proofs.Common.{◌≡◌, ℕ, ◌≤◌, ◌<◌, ◌+◌, ◌-◌, suc, zero, List, [], ◌∷◌, ◌++◌, length, drop, take, min, Bool, true, false, Result, Ok, Err, refl, ap, sym, ◌∙◌, arith, subst, append_assoc}
 use Rattle.std.proofs.lemmas.Bool.Decides.{nat_tests}
-use Rattle.std.proofs.lemmas.List.{drop-drop, drop_all, length-drop, length-take, length-take-le, take-take, take_all}
+use Rattle.std.proofs.lemmas.List.{length-drop, length-take, length-take-le, take-take, take_all}
 use Rattle.std.specs.Prelude.{flat_map, nat_le, nat_lt, ◌&&◌}
 use Rattle.std.specs.Str.Lossy.{utf8_valid_len}
 use Rattle.def_built.specs.Form.{built_script, draft_is_built}
-use Rattle.def_grammar.specs.Lines.{Directive, DirectiveAt, EndAt, EndLoad, EndScript, InLoad, InText, Line, LoadBlock, LoadOf, Order, Piece, SessionAt, Setup, TextRun, Unknown, directive_on, directive_piece, pieces, pieces_from, raw_lines}
+use Rattle.def_grammar.specs.Lines.{Directive, DirectiveAt, EndAt, EndLoad, EndScript, InText, Line, LoadBlock, LoadOf, Order, Setup, TextRun, Unknown, directive_on, directive_piece, pieces, pieces_from}
 use Rattle.def_grammar.specs.Script.{Directed, Draft, bad, Element, Loaded, block_bytes, broken_within, ending, line_at, first_draft, piece_elements, read_from, size_of, take_directive, take_load, text_elements, where_built}
 use Rattle.wh_base.specs.declared.statements.ScriptKind.TheVariants.{NotUtf8}
 use Rattle.wh_script.proofs.LineRuns.{length_of_line, lines_at-end, pieces-directive, pieces-text}
 use Rattle.wh_script.proofs.LoadLines.{block-is, lines_at-bytes, pieces-load, size_of-bytes}
-use Rattle.wh_script.specs.Pieces.{IsAlone, IsStep, IsTaken, IsWalked, ReadsOn, before_closing, behind_block, behind_closing, behind_line, block_at, elements_left, is_closed, line_len, line_of, lines_at, load_block, pieces_at, text_len}
+use Rattle.wh_script.specs.Pieces.{IsAlone, IsStep, IsTaken, IsWalked, ReadsOn, before_closing, behind_block, behind_line, block_at, elements_left, is_closed, line_len, line_of, lines_at, load_block, pieces_at, text_len}
 use Rattle.wh_script.specs.Sections.{Gives, meant}
 use Rattle.wh_script.specs.declared.lines.Directive as ours
 use Rattle.wh_script.specs.declared.lines.Directive.TheVariants as directives

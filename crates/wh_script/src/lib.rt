@@ -15,9 +15,9 @@ pub mod order;
 mod pieces;
 pub mod reading;
 pub mod script;
-pub mod section;
-pub mod text;
 #[cfg(test)]
 mod script_tests;
+pub mod section;
 #[cfg(test)]
 mod tests;
+pub mod text;

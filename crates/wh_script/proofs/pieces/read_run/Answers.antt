@@ -1,5 +1,5 @@
-use Rattle.std.proofs.Common.{Err, Ok, ap, arith, drop, min, take, ◌+◌, ◌-◌, ◌∙◌, ◌≡◌}
-use Rattle.def_grammar.specs.Script.{broken_within, text_elements}
+use Rattle.std.proofs.Common.{Err, Ok, ap, arith, min, ◌+◌, ◌-◌, ◌∙◌, ◌≡◌}
+use Rattle.def_grammar.specs.Script.{broken_within}
 use Rattle.wh_script.proofs.Walks.{run-all, run-first, step-fault, step-then}
 use Rattle.wh_script.proofs.pieces.read_run.Goals as goal
 

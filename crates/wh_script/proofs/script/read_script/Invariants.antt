@@ -1,4 +1,4 @@
-use Rattle.std.proofs.Common.{Bool, true, ◌≡◌, ◌-◌, ◌≤◌, length}
+use Rattle.std.proofs.Common.{true, ◌≡◌, ◌-◌, ◌≤◌, length}
 use Rattle.def_built.specs.Form.{built_script, draft_is_built}
 use Rattle.def_grammar.specs.Script.{line_at, read_from}
 use Rattle.wh_script.specs.Pieces.{elements_left}
