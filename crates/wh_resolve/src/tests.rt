@@ -61,7 +61,11 @@ fn query(
         what: RawWhat::Plain(column(alloc, name)?),
         alias: None,
     };
-    let equal = RawCondition::Compare(column(alloc, name)?, Op::Eq, Literal::Number(Wide::new(number)));
+    let equal = RawCondition::Compare(
+        column(alloc, name)?,
+        Op::Eq,
+        Literal::Number(Wide::new(number)),
+    );
     let more = RawTest {
         agg: RawAgg::CountRows,
         op: Op::Gt,
