@@ -1,6 +1,6 @@
 ghost use Rattle.def_grammar.specs.Script.{bad, command_by, first_draft, in_section, is_dml, is_inner, is_only_word, open_fault, take_closed, take_command, take_inner, take_statement, with_command, with_inner};
 ghost use Rattle.std.specs.List.{list_all};
-ghost use Rattle.std.specs.Prelude.{◌≡◌, IfOk, None, Ok, Some, [], option_map, true};
+ghost use Rattle.std.specs.Prelude.{◌≡◌, ◌++◌, ◌∷◌, IfOk, None, Ok, Some, [], option_map, true};
 ghost use Rattle.wh_base.specs.declared.statements.ScriptKind.TheVariants as kinds;
 ghost use Rattle.wh_lex.specs.Lex.{token_fits};
 ghost use Rattle.wh_script.specs.Drafts.{stated};
@@ -131,13 +131,9 @@ impl Draft {
             open_at,
             order,
         } = self;
-        let now = match now {
-            Some(section) => Some(section.with_command(alloc, command)?),
-            None => None,
-        };
         Ok(Draft {
             before,
-            now,
+            now: longer(alloc, now, command)?,
             block,
             open_at,
             order,
@@ -303,6 +299,20 @@ impl Draft {
             }),
             None => block_fault(&self.block),
         }
+    }
+}
+
+// The section that goes on with one command more, where one does. An error says that memory ran out.
+fn longer(
+    alloc: Global,
+    now: Option<OpenSection>,
+    command: Command,
+) -> Result<Option<OpenSection>, AllocError>
+    ensures { IfOk result (λ o. o ≡ option_map (λ s. record s { commands = s.commands ++ command ∷ [] }) now) }
+{
+    match now {
+        Some(section) => Ok(Some(section.with_command(alloc, command)?)),
+        None => Ok(None),
     }
 }
 
