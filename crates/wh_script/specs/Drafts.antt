@@ -1,15 +1,20 @@
 -- How the code takes the steps of a script's reading, beside the steps' own definitions.
 use Rattle.std.specs.List.{list_any}
-use Rattle.std.specs.Prelude.{Bool, List, None, Option, Some, cond, flat_map, is_none, map, not, option_map, option_to_list, ℕ, ◌&&◌, ◌++◌, ◌==◌}
+use Rattle.std.specs.Prelude.{Bool, List, None, Option, Some, [], cond, flat_map, is_none, map, not, option_map, option_to_list, ℕ, ◌&&◌, ◌++◌, ◌==◌, ◌∷◌}
 use Rattle.def_grammar.specs.Script as script
 use Rattle.def_grammar.specs.Script.{Draft, is_too_long, session_number}
 use Rattle.wh_base.specs.Lists.{is_empty, last}
+use Rattle.wh_base.specs.declared.statements.Command.{Command}
 use Rattle.wh_base.specs.declared.statements.Section.{Section}
 use Rattle.wh_lex.specs.declared.lex.StatementTokens.{StatementTokens}
 
 -- the statement that was lexed
 abbrev pub stated : StatementTokens → script.StatementTokens
 stated s = record { tokens = s.tokens; closed = s.closed }
+
+-- a section with one command more
+abbrev pub one_more : Command → Section → Section
+one_more c s = record s { commands = s.commands ++ c ∷ [] }
 
 -- ---- `@order`
 

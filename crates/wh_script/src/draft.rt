@@ -1,9 +1,9 @@
 ghost use Rattle.def_grammar.specs.Script.{bad, command_by, first_draft, in_section, is_dml, is_inner, is_only_word, open_fault, take_closed, take_command, take_inner, take_statement, with_command, with_inner};
 ghost use Rattle.std.specs.List.{list_all};
-ghost use Rattle.std.specs.Prelude.{◌≡◌, ◌++◌, ◌∷◌, IfOk, None, Ok, Some, [], option_map, true};
+ghost use Rattle.std.specs.Prelude.{◌≡◌, IfOk, None, Ok, Some, [], option_map, true};
 ghost use Rattle.wh_base.specs.declared.statements.ScriptKind.TheVariants as kinds;
 ghost use Rattle.wh_lex.specs.Lex.{token_fits};
-ghost use Rattle.wh_script.specs.Drafts.{stated};
+ghost use Rattle.wh_script.specs.Drafts.{one_more, stated};
 ghost use Rattle.wh_script.specs.Sections.{Gives};
 
 use crate::fault::ScriptFault;
@@ -308,13 +308,19 @@ fn longer(
     now: Option<OpenSection>,
     command: Command,
 ) -> Result<Option<OpenSection>, AllocError>
-    ensures { IfOk result (λ o. o ≡ option_map (λ s. record s { commands = s.commands ++ command ∷ [] }) now) }
+    ensures { IfOk result (λ o. o ≡ option_map (one_more command) now) }
 {
     match now {
         Some(section) => Ok(Some(section.with_command(alloc, command)?)),
-        None => Ok(None),
+        None => {
+            discard(command);
+            Ok(None)
+        }
     }
 }
+
+// A command that no section takes.
+fn discard(_command: Command) {}
 
 fn block_fault(block: &Option<OpenBlock>) -> Option<BadScript>
     ensures { result ≡ option_map (λ b. bad b.line kinds.OpenBlock) block.now }
