@@ -1,9 +1,9 @@
 -- Sameness and products of values.
-use Rattle.std.proofs.Common.{◌≡◌, ℕ, ◌+◌, ◌*◌, ◌<◌, ◌≤◌, ◌^◌, Option, Some, None, IsTrue, Bool, true, false, refl, arith, sym, ap, ◌∙◌}
-use Rattle.std.specs.Prelude.{ℤ, ◌*ℤ◌, nat_abs, ◌↔◌}
-use Rattle.std.proofs.lemmas.Bool.Decides.{nat_tests, same_from_decides}
+use Rattle.std.proofs.Common.{◌≡◌, ◌<◌, ◌^◌, Some, None, IsTrue, refl, arith}
+use Rattle.std.specs.Prelude.{ℤ, ◌*ℤ◌, nat_abs}
+use Rattle.std.proofs.lemmas.Bool.Decides.{nat_tests}
 use Rattle.wh_base.proofs.Same.{same_value-Decides}
-use Rattle.wh_base.specs.Values.{is_small, product_value, same_value}
+use Rattle.wh_base.specs.Values.{is_small, product_value}
 use Rattle.wh_base.specs.declared.values.Value.{Value}
 use Rattle.wh_base.specs.declared.values.Value.TheVariants.{Null, Num, Ratio, Text}
 use Rattle.wh_tuple.specs.Meant.{number_in}

@@ -1,9 +1,8 @@
 -- Small numbers of a tuple.
-use Rattle.std.proofs.Common.{◌≡◌, ℕ, zero, suc, ◌<◌, Bool, true, false, ◌&&◌, cond, List, [], ◌∷◌, IsTrue, refl, arith}
+use Rattle.std.proofs.Common.{ℕ, zero, suc, Bool, true, false, ◌&&◌, cond, List, [], ◌∷◌, IsTrue, refl}
 use Rattle.std.specs.List.{list_all}
 use Rattle.std.specs.Prelude.{nat_lt, ◌==◌}
-use Rattle.std.proofs.lemmas.Bool.Decides.{nat_tests}
-use Rattle.def_meaning.specs.Joined.{column_value, part_value, row_of, empty_row}
+use Rattle.def_meaning.specs.Joined.{column_value, part_value, row_of}
 use Rattle.wh_base.specs.Tables.{value_at}
 use Rattle.wh_base.specs.Values.{is_small, number_limit}
 use Rattle.wh_base.specs.declared.columns.ColPart.{ColPart}
