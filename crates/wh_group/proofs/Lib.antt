@@ -1,2 +1,6 @@
 pub mod Extremes
+pub mod Kept
+pub mod Keys
 pub mod Numbers
+pub mod Rooms
+pub mod Steps
