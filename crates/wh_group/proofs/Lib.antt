@@ -1,3 +1,5 @@
+pub mod Adding
+pub mod Counting
 pub mod Extremes
 pub mod Kept
 pub mod Keys

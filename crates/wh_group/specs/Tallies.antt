@@ -1,5 +1,6 @@
 -- What is kept of each group while tuples are counted.
 use Rattle.def_meaning.specs.Accumulated.{acc_by, acc_of, average_by, query_aggs, sum_by_count}
+use Rattle.def_meaning.specs.Joined.{column_value}
 use Rattle.def_meaning.specs.Meaning.{Grouped, either_value, expr_value, greater, groups, lesser, number_of}
 use Rattle.std.specs.List.{All, list_all}
 use Rattle.std.specs.Ordering.{is_gt}
@@ -110,6 +111,11 @@ kept value aggs g = (g.0, map (λ a. tally_by a (acc_of value g.1 a)) aggs)
 abbrev pub kept_groups : {T : Type 0} → (T → ColRef → Value) → StarQuery → List T → List Kept
 kept_groups value q ts = map (kept value (query_aggs q)) (groups value q.keys ts)
 
+-- the groups before the first thing
+abbrev pub first_groups : List ColRef → List Agg → List Kept
+first_groups [] aggs = ([], begun aggs) ∷ []
+first_groups (c ∷ more) aggs = []
+
 abbrev pub HaveRoom : List Kept → Type 0
 HaveRoom groups = All (λ g. All HasRoom g.1) groups
 
@@ -117,6 +123,12 @@ HaveRoom groups = All (λ g. All HasRoom g.1) groups
 abbrev pub change_group : List Value → (List Tally → List Tally) → List Tally → List Kept → List Kept
 change_group key change first [] = (key, change first) ∷ []
 change_group key change first (g ∷ gs) = cond (same_values key g.0) ((g.0, change g.1) ∷ gs) (g ∷ change_group key change first gs)
+
+-- the groups of a query after one more tuple
+abbrev pub groups_with : StarQuery → List Agg → List RowAt → List Kept → List Kept
+groups_with q aggs tuple groups =
+    let value = column_value q.tables tuple in
+    change_group (map value q.keys) (tallies_with (counted value) aggs) (begun aggs) groups
 
 -- ---- small numbers
 

@@ -1,0 +1,10 @@
+use Rattle.std.proofs.Common.{◌≡◌, map, take}
+use Rattle.def_meaning.specs.Accumulated.{query_aggs}
+use Rattle.def_meaning.specs.Joined.{column_value}
+use Rattle.def_meaning.specs.Meaning.{groups}
+use Rattle.wh_group.specs.Tallies.{kept_groups}
+use Rattle.wh_group.proofs.groups.group.Given as goal
+
+-- the groups of the tuples so far
+abbrev pub invariant-loop-at : goal.invariant-loop-at
+invariant-loop-at l = l.groups.entries ≡ kept_groups (column_value l.query.tables) l.query (take l.at l.tuples.tuples)
