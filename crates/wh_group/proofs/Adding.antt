@@ -5,7 +5,7 @@ use Rattle.std.specs.List.{All, list_all}
 use Rattle.std.proofs.lemmas.List.Elements.{All-get_or}
 use Rattle.wh_base.specs.declared.columns.Agg.{Agg}
 use Rattle.wh_base.specs.declared.values.Value.{Value}
-use Rattle.wh_group.specs.Tallies.{HasRoom, is_small_agg, tallies_with, tally_with}
+use Rattle.wh_group.specs.Tallies.{HasRoom, is_small_agg, merged_each, merged_tally, tallies_with, tally_with}
 use Rattle.wh_group.specs.declared.tally.Tally.{Tally}
 
 module _ (f : Agg → Value) where
@@ -54,3 +54,31 @@ small-agg (a ∷ more) zero d h k = (both (is_small_agg a) (list_all is_small_ag
 small-agg (a ∷ more) (suc at) d h k = small-agg more at d (both (is_small_agg a) (list_all is_small_agg more) h).1 (omega arith)
 
 pub ruleset adding = (length-tallies, room-at, add-next, add-past, small-agg)
+
+-- ---- two parts, one by one
+
+pub length-each : (ts us : List Tally) → length (merged_each ts us) ≡ length ts
+length-each [] us = refl
+length-each (t ∷ ts) [] = refl
+length-each (t ∷ ts) (u ∷ us) = ap suc (length-each ts us)
+
+pub merge-none : (ts : List Tally) → merged_each ts [] ≡ ts
+merge-none [] = refl
+merge-none (t ∷ ts) = refl
+
+pub merge-next : (ts us : List Tally) (at : ℕ) (d e : Tally) → at < length us → at < length ts
+    → set (merged_each ts (take at us)) at (merged_tally (get_or (merged_each ts (take at us)) at d) (get_or us at e)) ≡ merged_each ts (take (at + 1) us)
+merge-next ts [] at d e h k = absurd (omega arith)
+merge-next [] (u ∷ us) at d e h k = absurd (omega arith)
+merge-next (t ∷ ts) (u ∷ us) zero d e h k = ap (λ l. merged_tally t u ∷ l) (sym (merge-none ts))
+merge-next (t ∷ ts) (u ∷ us) (suc at) d e h k =
+    let next : suc (at + 1) ≡ suc at + 1 = omega arith in
+    ap (λ l. merged_tally t u ∷ l) (merge-next ts us at d e (omega arith) (omega arith)) ∙ ap (λ n. merged_each (t ∷ ts) (take n (u ∷ us))) next
+
+pub merge-past : (ts us : List Tally) (at : ℕ) → length ts ≤ at → merged_each ts (take at us) ≡ merged_each ts us
+merge-past [] us at h = refl
+merge-past (t ∷ ts) us zero h = absurd (omega arith)
+merge-past (t ∷ ts) [] (suc at) h = refl
+merge-past (t ∷ ts) (u ∷ us) (suc at) h = ap (λ l. merged_tally t u ∷ l) (merge-past ts us at (omega arith))
+
+pub ruleset merging = (length-each, merge-none, merge-next, merge-past)

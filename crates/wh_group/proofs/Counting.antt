@@ -11,6 +11,7 @@ use Rattle.wh_base.specs.declared.columns.ColRef.{ColRef}
 use Rattle.wh_base.specs.declared.values.Value.{Value}
 use Rattle.def_meaning.specs.Meaning.{groups}
 use Rattle.wh_group.specs.Tallies.{AreSmallTuples, first_groups, groups_with, kept}
+use Rattle.wh_group.proofs.Rooms.{each_small}
 use Rattle.wh_group.proofs.Kept.{groups-more, groups-none, groups-single}
 
 pub groups-first : {T : Type 0} (value : T → ColRef → Value) (keys : List ColRef) (aggs : List Agg) → first_groups keys aggs ≡ map (kept value aggs) (groups value keys [])
@@ -22,6 +23,6 @@ pub tuples-more : (q : StarQuery) (aggs : List Agg) (at : ℕ) (ts : List (List 
 tuples-more q aggs at ts t e = sym (groups-more (column_value q.tables) aggs q.keys at ts t e)
 
 pub small-tuple : (ts : List (List RowAt)) (at : ℕ) (t : List RowAt) → AreSmallTuples ts → slice_get ts at ≡ Some t → IsSmallTuple t
-small-tuple ts at t small e = subst IsSmallTuple (get_or_from_slice_get ts at t t e) (All-get_or IsSmallTuple ts at t (slice_get_within ts at t e) small)
+small-tuple ts at t small e = subst IsSmallTuple (get_or_from_slice_get ts at t t e) (All-get_or IsSmallTuple ts at t (slice_get_within ts at t e) (each_small ts small))
 
 pub ruleset counting = (groups-first, tuples-more, small-tuple)

@@ -7,6 +7,7 @@ use Rattle.std.proofs.lemmas.Int.{ints, unsigned_abs-mul}
 use Rattle.std.proofs.Math.Nat.{mul-le-mul}
 use Rattle.std.proofs.lemmas.List.{length-map, length-take}
 use Rattle.std.proofs.lemmas.List.Elements.{All-nil, All-cons, All-head, All-tail, All-filter, All-take, All-weaker}
+use Rattle.std.proofs.lemmas.List.Sums.{AllPass-from_list_all}
 use Rattle.wh_base.specs.Lists.{distinct}
 use Rattle.wh_base.specs.Values.{is_small, product_value, same_values}
 use Rattle.wh_base.specs.declared.columns.Agg.{Agg}
@@ -20,7 +21,7 @@ use Rattle.wh_base.specs.declared.values.Value.TheVariants.{Null, Num, Text, Rat
 use Rattle.def_meaning.specs.Accumulated.{acc_of}
 use Rattle.def_meaning.specs.Joined.{column_value}
 use Rattle.def_meaning.specs.Meaning.{Grouped, expr_value, groups, groups_by, key_of, not_null, number_of, total_of, values_of}
-use Rattle.wh_tuple.specs.Meant.{IsSmallTuple, is_small_expr}
+use Rattle.wh_tuple.specs.Meant.{IsSmallTuple, is_small_expr, is_small_row}
 use Rattle.wh_tuple.proofs.Small.{small_column}
 use Rattle.wh_group.specs.Tallies.{AreSmallTuples, HasRoom, HaveRoom, IsBounded, Kept, begun, counted, is_small_agg, kept, tally_by}
 use Rattle.wh_group.specs.declared.tally.Tally.{Tally}
@@ -105,6 +106,9 @@ module _ {T : Type 0} (value : T → ColRef → Value) where
 
 -- ---- groups of tuples
 
+pub each_small : (ts : List (List RowAt)) → AreSmallTuples ts → All IsSmallTuple ts
+each_small ts h = AllPass-from_list_all (list_all is_small_row) ts h
+
 both : (x y : Bool) → IsTrue (x && y) → IsTrue x × IsTrue y
 both true y h = (refl, h)
 both false y h = cc
@@ -113,7 +117,7 @@ module _ (tables : List ℕ) where
   abbrev value : List RowAt → ColRef → Value
   value = column_value tables
 
-  tallies_room : (ts : List (List RowAt)) (aggs : List Agg) → AreSmallTuples ts → IsTrue (list_all is_small_agg aggs) → length ts < 2 ^ 20 → All HasRoom (map (λ a. tally_by a (acc_of value ts a)) aggs)
+  tallies_room : (ts : List (List RowAt)) (aggs : List Agg) → All IsSmallTuple ts → IsTrue (list_all is_small_agg aggs) → length ts < 2 ^ 20 → All HasRoom (map (λ a. tally_by a (acc_of value ts a)) aggs)
   tallies_room ts [] small aggs_small few = All-nil HasRoom
   tallies_room ts (a ∷ more) small aggs_small few =
       let parts = both (is_small_agg a) (list_all is_small_agg more) aggs_small in
@@ -122,7 +126,7 @@ module _ (tables : List ℕ) where
       (tallies_room ts more small parts.1 few)
 
   module _ (aggs : List Agg) (aggs_small : IsTrue (list_all is_small_agg aggs)) where
-    by_key_room : (key : List RowAt → Key) (ts : List (List RowAt)) (ks : List Key) → AreSmallTuples ts → length ts < 2 ^ 20 → HaveRoom (map (kept value aggs) (map (λ k. (k, filter (λ t. same_values (key t) k) ts)) ks))
+    by_key_room : (key : List RowAt → Key) (ts : List (List RowAt)) (ks : List Key) → All IsSmallTuple ts → length ts < 2 ^ 20 → HaveRoom (map (kept value aggs) (map (λ k. (k, filter (λ t. same_values (key t) k) ts)) ks))
     by_key_room key ts [] small few = All-nil (λ g. All HasRoom g.1)
     by_key_room key ts (k ∷ ks) small few =
         let mine = filter (λ t. same_values (key t) k) ts in
@@ -130,13 +134,13 @@ module _ (tables : List ℕ) where
         (tallies_room mine aggs (All-filter (λ t. same_values (key t) k) IsSmallTuple ts small) aggs_small (omega (arith, fewer (λ t. same_values (key t) k) ts)))
         (by_key_room key ts ks small few)
 
-    groups_room : (keys : List ColRef) (ts : List (List RowAt)) → AreSmallTuples ts → length ts < 2 ^ 20 → HaveRoom (map (kept value aggs) (groups value keys ts))
+    groups_room : (keys : List ColRef) (ts : List (List RowAt)) → All IsSmallTuple ts → length ts < 2 ^ 20 → HaveRoom (map (kept value aggs) (groups value keys ts))
     groups_room [] ts small few = All-cons (λ g. All HasRoom g.1) (kept value aggs ([], ts)) [] (tallies_room ts aggs small aggs_small few) (All-nil (λ g. All HasRoom g.1))
     groups_room (c ∷ cs) ts small few = by_key_room (key_of value (c ∷ cs)) ts (distinct same_values (map (key_of value (c ∷ cs)) ts)) small few
 
     -- while the tuples are counted
     pub counting_room : (keys : List ColRef) (at : ℕ) (ts : List (List RowAt)) → AreSmallTuples ts → at < 2 ^ 20 → HaveRoom (map (kept value aggs) (groups value keys (take at ts)))
-    counting_room keys at ts small few = groups_room keys (take at ts) (All-take IsSmallTuple at ts small) (omega (arith, length-take at ts))
+    counting_room keys at ts small few = groups_room keys (take at ts) (All-take IsSmallTuple at ts (each_small ts small)) (omega (arith, length-take at ts))
 
     -- before the first one
     pub begun_room : All HasRoom (begun aggs)

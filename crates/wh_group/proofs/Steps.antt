@@ -7,9 +7,8 @@ use Rattle.std.proofs.lemmas.List.Elements.{All-head, All-tail}
 use Rattle.std.specs.Map.{lookup, set_value}
 use Rattle.indexmap.specs.IndexMap.{insert_entry}
 use Rattle.wh_base.specs.Values.{value_cmp, same_values}
-use Rattle.wh_base.specs.declared.columns.Agg.{Agg}
 use Rattle.wh_base.specs.declared.values.Value.{Value}
-use Rattle.wh_group.specs.Tallies.{Kept, HasRoom, HaveRoom, change_group, tallies_with}
+use Rattle.wh_group.specs.Tallies.{Kept, HasRoom, HaveRoom, change_group}
 use Rattle.wh_group.specs.declared.tally.Tally.{Tally}
 use Rattle.wh_group.proofs.Keys.{Key, same_by_cmp}
 
@@ -56,14 +55,12 @@ comes_last eq h key change first (g ∷ gs) e = by (eq key g.0) (same_values key
     by false true s e more = cc
     by false false s e more = ap (λ l. g ∷ l) (more e)
 
-pub group_goes_on : (key : Key) (value : Agg → Value) (aggs : List Agg) (first : List Tally) (groups : List Kept) (tallies : List Tally)
-    → lookup (pointwise (eq_by_cmp value_cmp) key) groups ≡ Some tallies
-    → set_value (pointwise (eq_by_cmp value_cmp) key) groups (tallies_with value aggs tallies) ≡ change_group key (tallies_with value aggs) first groups
-group_goes_on key value aggs = goes_on (pointwise (eq_by_cmp value_cmp)) same_by_cmp key (tallies_with value aggs)
+pub one_goes_on : (key : Key) (change : List Tally → List Tally) (first : List Tally) (groups : List Kept) (tallies : List Tally)
+    → lookup (pointwise (eq_by_cmp value_cmp) key) groups ≡ Some tallies → set_value (pointwise (eq_by_cmp value_cmp) key) groups (change tallies) ≡ change_group key change first groups
+one_goes_on = goes_on (pointwise (eq_by_cmp value_cmp)) same_by_cmp
 
-pub group_comes_last : (key : Key) (value : Agg → Value) (aggs : List Agg) (first : List Tally) (groups : List Kept)
-    → lookup (pointwise (eq_by_cmp value_cmp) key) groups ≡ None
-    → insert_entry (pointwise (eq_by_cmp value_cmp)) groups key (tallies_with value aggs first) ≡ change_group key (tallies_with value aggs) first groups
-group_comes_last key value aggs = comes_last (pointwise (eq_by_cmp value_cmp)) same_by_cmp key (tallies_with value aggs)
+pub one_comes_last : (key : Key) (change : List Tally → List Tally) (first : List Tally) (groups : List Kept)
+    → lookup (pointwise (eq_by_cmp value_cmp) key) groups ≡ None → insert_entry (pointwise (eq_by_cmp value_cmp)) groups key (change first) ≡ change_group key change first groups
+one_comes_last = comes_last (pointwise (eq_by_cmp value_cmp)) same_by_cmp
 
-pub ruleset steps = (found_room, group_goes_on, group_comes_last)
+pub ruleset steps = (found_room)

@@ -10,11 +10,13 @@ use Rattle.wh_base.specs.declared.columns.Agg.{Agg}
 use Rattle.wh_base.specs.declared.columns.Agg.TheVariants.{Avg, Count, CountAll, Max, Min, Sum}
 use Rattle.wh_base.specs.declared.columns.ColRef.{ColRef}
 use Rattle.wh_base.specs.declared.queries.Acc.{Acc}
+use Rattle.wh_base.specs.declared.queries.Item.{Item}
+use Rattle.wh_base.specs.declared.queries.Item.TheVariants as item
 use Rattle.wh_base.specs.declared.queries.StarQuery.{StarQuery}
 use Rattle.wh_base.specs.declared.tables.RowAt.{RowAt}
 use Rattle.wh_base.specs.declared.values.Value.{Value}
 use Rattle.wh_base.specs.declared.values.Value.TheVariants.{Null, Num}
-use Rattle.wh_tuple.specs.Meant.{IsSmallTuple, is_small_expr}
+use Rattle.wh_tuple.specs.Meant.{is_small_expr, is_small_row}
 use Rattle.wh_group.specs.declared.tally.Summed.{Summed}
 use Rattle.wh_group.specs.declared.tally.Tally.{Tally}
 use Rattle.wh_group.specs.declared.tally.Tally.TheVariants as tally
@@ -64,11 +66,14 @@ tally_with v (tally.Sum s) = tally.Sum (sum_with v s)
 tally_with v (tally.Least w) = tally.Least (either_value lesser w v)
 tally_with v (tally.Greatest w) = tally.Greatest (either_value greater w v)
 
--- two parts of a group put together
+-- two parts of a group put together: counts and sums add, the lesser and the greater value stay
+abbrev pub merged_sum : Summed → Summed → Summed
+merged_sum s t = record { count = s.count + t.count; sum = s.sum +ℤ t.sum }
+
 abbrev pub merged_tally : Tally → Tally → Tally
 merged_tally (tally.Rows m) (tally.Rows n) = tally.Rows (m + n)
 merged_tally (tally.Values m) (tally.Values n) = tally.Values (m + n)
-merged_tally (tally.Sum s) (tally.Sum t) = tally.Sum (record { count = s.count + t.count; sum = s.sum +ℤ t.sum })
+merged_tally (tally.Sum s) (tally.Sum t) = tally.Sum (merged_sum s t)
 merged_tally (tally.Least v) (tally.Least w) = tally.Least (either_value lesser v w)
 merged_tally (tally.Greatest v) (tally.Greatest w) = tally.Greatest (either_value greater v w)
 merged_tally t u = t
@@ -96,6 +101,17 @@ abbrev pub tallies_with : (Agg → Value) → List Agg → List Tally → List T
 tallies_with value [] ts = ts
 tallies_with value (a ∷ more) [] = []
 tallies_with value (a ∷ more) (t ∷ ts) = tally_with (value a) t ∷ tallies_with value more ts
+
+-- the tallies of two parts of a group put together, one by one
+abbrev pub merged_each : List Tally → List Tally → List Tally
+merged_each [] us = []
+merged_each (t ∷ ts) [] = t ∷ ts
+merged_each (t ∷ ts) (u ∷ us) = merged_tally t u ∷ merged_each ts us
+
+-- the same, where nothing is kept of the first part yet
+abbrev pub merged_tallies : List Tally → List Tally → List Tally
+merged_tallies [] us = us
+merged_tallies (t ∷ ts) us = merged_each (t ∷ ts) us
 
 -- ---- groups
 
@@ -130,6 +146,11 @@ groups_with q aggs tuple groups =
     let value = column_value q.tables tuple in
     change_group (map value q.keys) (tallies_with (counted value) aggs) (begun aggs) groups
 
+-- the groups of two parts put together: those of the first, and then the new ones
+abbrev pub merged_groups : List Kept → List Kept → List Kept
+merged_groups groups [] = groups
+merged_groups groups (g ∷ more) = merged_groups (change_group g.0 (λ ts. merged_tallies ts g.1) [] groups) more
+
 -- ---- small numbers
 
 -- the number that the aggregate ranges over, where it is written
@@ -145,5 +166,11 @@ is_small_agg (Max e) = is_small_expr e
 abbrev pub HasSmallAggs : StarQuery → Type 0
 HasSmallAggs q = IsTrue (list_all is_small_agg (query_aggs q))
 
+-- each number in the tuples is
 abbrev pub AreSmallTuples : List (List RowAt) → Type 0
-AreSmallTuples tuples = All IsSmallTuple tuples
+AreSmallTuples tuples = IsTrue (list_all (list_all is_small_row) tuples)
+
+-- the number that is written in an item's aggregate is
+abbrev pub small_item : Item → Bool
+small_item (item.Col c) = true
+small_item (item.Agg a) = is_small_agg a

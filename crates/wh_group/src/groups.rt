@@ -2,7 +2,7 @@ ghost use Rattle.def_meaning.specs.Accumulated.{item_aggs, query_aggs};
 ghost use Rattle.def_meaning.specs.Joined.{column_value};
 ghost use Rattle.std.specs.List.{All, list_all};
 ghost use Rattle.std.specs.Prelude.{◌≡◌, ◌≤◌, ◌^◌, ◌++◌, flat_map, length, map, IfOk, IsTrue, OnErr, OnOk};
-ghost use Rattle.wh_group.specs.Tallies.{AreSmallTuples, HasRoom, HasSmallAggs, HaveRoom, IsBounded, begun, change_group, counted, first_groups, groups_with, is_small_agg, kept_groups, tallies_with};
+ghost use Rattle.wh_group.specs.Tallies.{AreSmallTuples, HasRoom, HasSmallAggs, HaveRoom, IsBounded, begun, change_group, counted, first_groups, groups_with, is_small_agg, kept_groups, merged_each, merged_tallies, tallies_with};
 ghost use Rattle.wh_tuple.specs.Meant.{IsSmallTuple, cell_value};
 
 use crate::tally::Tally;
@@ -108,6 +108,21 @@ fn add_each(
     Ok(())
 }
 
+// The tallies of two parts put together, one by one. An error says that memory ran out, that a count leaves 64 bits, or a sum
+// 128.
+#[tactic(auto, using(crate::proofs::Adding::merging))]
+fn merge_tallies(alloc: Global, tallies: &mut [Tally], others: &[Tally]) -> Result<(), AllocError>
+    ensures { OnOk result (tallies.new ≡ merged_each tallies.old others.now) }
+{
+    for at in 0..others.len() {
+        if at >= tallies.len() {
+            return Ok(());
+        }
+        tallies[at].merge(alloc, &others[at])?;
+    }
+    Ok(())
+}
+
 impl Tallies {
     /// What is kept before the first tuple. An error says that memory ran out.
     pub fn begun(alloc: Global, aggs: &[Agg]) -> Result<Tallies, AllocError>
@@ -125,6 +140,18 @@ impl Tallies {
         ensures { result.now ≡ self.now }
     {
         self.list.as_slice()
+    }
+
+    /// Puts what is kept of two parts of a group together. An error says that memory ran out, that a count leaves 64 bits, or a
+    /// sum 128.
+    pub fn merge(&mut self, alloc: Global, other: Tallies) -> Result<(), AllocError>
+        ensures { OnOk result (self.new ≡ merged_tallies self.old other) }
+    {
+        if self.list.is_empty() {
+            *self = other;
+            return Ok(());
+        }
+        merge_tallies(alloc, self.list.as_mut_slice(), other.list.as_slice())
     }
 
     // One more tuple. An error says that memory ran out.

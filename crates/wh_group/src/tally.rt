@@ -1,8 +1,8 @@
 ghost use Rattle.def_meaning.specs.Accumulated.{acc_by, average_by, sum_by_count};
 ghost use Rattle.def_meaning.specs.Meaning.{either_value, greater, lesser, number_of};
-ghost use Rattle.std.specs.Prelude.{◌≡◌, [], IfOk, OnOk};
+ghost use Rattle.std.specs.Prelude.{◌≡◌, ◌+◌, [], IfOk, OnOk};
 ghost use Rattle.wh_base.specs.Values.{is_true_that};
-ghost use Rattle.wh_group.specs.Tallies.{HasRoom, IsBounded, is_above, sum_with, tally_by, tally_value, tally_with};
+ghost use Rattle.wh_group.specs.Tallies.{HasRoom, IsBounded, is_above, merged_sum, merged_tally, sum_with, tally_by, tally_value, tally_with};
 ghost use Rattle.wh_tuple.specs.Meant.{cell_value};
 
 use std::alloc::{AllocError, Global};
@@ -30,6 +30,16 @@ pub enum Tally {
     Greatest(Value),
 }
 
+// The sum of two counts. An error says that it leaves 64 bits.
+fn added(count: u64, more: u64) -> Result<u64, AllocError>
+    ensures { IfOk result (λ n. n ≡ count + more) }
+{
+    match count.checked_add(more) {
+        Some(total) => Ok(total),
+        None => Err(AllocError),
+    }
+}
+
 impl Summed {
     // One more value. NULL adds nothing.
     #[tactic(auto, using(crate::proofs::Numbers::numbers))]
@@ -43,6 +53,19 @@ impl Summed {
             self.count += 1;
             self.sum = Wide::new(self.sum.get() + number);
         }
+    }
+
+    // The counts and the sums of two parts. An error says that a count leaves 64 bits, or a sum 128.
+    fn merge(&mut self, other: &Summed) -> Result<(), AllocError>
+        ensures { OnOk result (self.new ≡ merged_sum self.old other.now) }
+    {
+        let count = added(self.count, other.count)?;
+        let Some(sum) = self.sum.get().checked_add(other.sum.get()) else {
+            return Err(AllocError);
+        };
+        self.count = count;
+        self.sum = Wide::new(sum);
+        Ok(())
     }
 
     // The sum, NULL over no value.
@@ -128,6 +151,26 @@ impl Tally {
             Tally::Sum(summed) => summed.add(cell),
             Tally::Least(value) => keep_lesser(alloc, value, cell)?,
             Tally::Greatest(value) => keep_greater(alloc, value, cell)?,
+        }
+        Ok(())
+    }
+
+    /// Puts what is kept of two parts of a group together. An error says that memory ran out, that a count leaves 64 bits, or a
+    /// sum 128.
+    pub fn merge(&mut self, alloc: Global, other: &Tally) -> Result<(), AllocError>
+        ensures { OnOk result (self.new ≡ merged_tally self.old other.now) }
+    {
+        match (self, other) {
+            (Tally::Rows(rows), Tally::Rows(more)) => *rows = added(*rows, *more)?,
+            (Tally::Values(count), Tally::Values(more)) => *count = added(*count, *more)?,
+            (Tally::Sum(summed), Tally::Sum(more)) => summed.merge(more)?,
+            (Tally::Least(value), Tally::Least(more)) => {
+                keep_lesser(alloc, value, Cell::Kept(more))?;
+            }
+            (Tally::Greatest(value), Tally::Greatest(more)) => {
+                keep_greater(alloc, value, Cell::Kept(more))?;
+            }
+            _ => {}
         }
         Ok(())
     }
