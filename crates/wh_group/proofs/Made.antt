@@ -127,6 +127,5 @@ module _ {T : Type 0} (value : T → ColRef → Value) (q : StarQuery) where
       by true same = λ i. entry_kept g i ∷ same i
       by false same = same
 
-
   pub entries-kept : (ts : List T) → kept_entries q (kept_groups value q ts) ≡ grouped_entries value q ts
   entries-kept ts = filtered (groups value q.keys ts)

@@ -214,9 +214,9 @@ module _ (u : Key → List Tally) where
       by false e more =
           let last : u k ≡ with_one k f k = new k e ∙ sym (ap (λ b. cond b (merged_tallies (f k) (u k)) (f k)) (same_itself k)) in
           ap (λ l. merged_groups l (listed u ks)) (
-            adds_one k (λ ts. merged_tallies ts (u k)) f [] ds e
-            ∙ (λ i. not_changed k (λ ts. merged_tallies ts (u k)) f ds e i ++ (k, last i) ∷ [])
-            ∙ sym (map-append (λ j. (j, with_one k f j)) ds (k ∷ []))
+          adds_one k (λ ts. merged_tallies ts (u k)) f [] ds e
+          ∙ (λ i. not_changed k (λ ts. merged_tallies ts (u k)) f ds e i ++ (k, last i) ∷ [])
+          ∙ sym (map-append (λ j. (j, with_one k f j)) ds (k ∷ []))
           )
           ∙ more (with_one k f) (ds ++ k ∷ []) (differ_last ds k dd e) (still_new (ds ++ k ∷ []) (λ j h. not_last k j ds h))
 

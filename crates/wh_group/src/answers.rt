@@ -169,14 +169,8 @@ fn list_entries(
 
 /// What a view of the query stores of these groups: an entry for each that meets HAVING, in the order of a view, which is this
 /// project's own: by the keys and then by the rows, value by value, NULL last. An error says that memory ran out.
-pub fn entries(
-    alloc: Global,
-    query: &StarQuery,
-    groups: &Groups,
-) -> Result<ViewRows, AllocError>
-    ensures {
-        (ts : List (List RowAt)) → groups.now.entries ≡ kept_groups (column_value query.now.tables) query.now ts → IfOk result (λ rows. rows ≡ sorted_by entry_cmp (grouped_entries (column_value query.now.tables) query.now ts))
-    }
+pub fn entries(alloc: Global, query: &StarQuery, groups: &Groups) -> Result<ViewRows, AllocError>
+    ensures { (ts : List (List RowAt)) → groups.now.entries ≡ kept_groups (column_value query.now.tables) query.now ts → IfOk result (λ rows. rows ≡ sorted_by entry_cmp (grouped_entries (column_value query.now.tables) query.now ts)) }
 {
     sort_entries(list_entries(alloc, query, groups)?)
 }
@@ -196,9 +190,7 @@ fn rows_of(alloc: Global, entries: Vec<ViewEntry>) -> Result<Vec<Seq<Value>>, Al
 /// key round and NULL comes last, and then by all items from left to right, which is this project's own rule. An error says
 /// that memory ran out.
 pub fn finish(alloc: Global, query: &StarQuery, groups: Groups) -> Result<Rows, AllocError>
-    ensures {
-        (ts : List (List RowAt)) → groups.entries ≡ kept_groups (column_value query.now.tables) query.now ts → IfOk result (λ rows. rows ≡ in_order query.now.order (map (λ e. e.row) (sorted_by entry_cmp (grouped_entries (column_value query.now.tables) query.now ts))))
-    }
+    ensures { (ts : List (List RowAt)) → groups.entries ≡ kept_groups (column_value query.now.tables) query.now ts → IfOk result (λ rows. rows ≡ in_order query.now.order (map (λ e. e.row) (sorted_by entry_cmp (grouped_entries (column_value query.now.tables) query.now ts)))) }
 {
     let entries = list_entries(alloc, query, &groups)?;
     sort_rows(query.order.as_slice(), rows_of(alloc, entries)?)

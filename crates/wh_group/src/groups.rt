@@ -247,11 +247,7 @@ fn no_tuples(alloc: Global, keys: &[ColRef], aggs: &[Agg]) -> Result<Groups, All
 /// NULL; without group columns there is one group, also over nothing. Each number in the tuples and in the aggregates is
 /// below 10^15 in size, so that no sum leaves 128 bits. An error says that memory ran out.
 #[tactic(auto, using(crate::proofs::Counting::counting))]
-pub fn group(
-    alloc: Global,
-    query: &StarQuery,
-    tuples: &Tuples<'_>,
-) -> Result<Groups, AllocError>
+pub fn group(alloc: Global, query: &StarQuery, tuples: &Tuples<'_>) -> Result<Groups, AllocError>
     requires few { length tuples.now.tuples ≤ 262144 }
     requires tuples { AreSmallTuples tuples.now.tuples }
     requires aggs { HasSmallAggs query.now }

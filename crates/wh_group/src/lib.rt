@@ -13,3 +13,6 @@ pub use groups::{Groups, Tallies, group, query_aggs};
 pub use merging::merge;
 pub use small::{are_small_tuples, has_small_aggs};
 pub use tally::{Summed, Tally};
+
+#[cfg(test)]
+mod tests;

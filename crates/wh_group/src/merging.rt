@@ -42,9 +42,7 @@ fn merge_each(alloc: Global, first: Groups, second: Groups) -> Result<Groups, Al
 /// groups of the first keep their order, and new ones come last. An error says that memory ran out, that a count leaves 64
 /// bits, or a sum 128.
 pub fn merge(alloc: Global, first: Groups, second: Groups) -> Result<Groups, AllocError>
-    ensures {
-        (query : StarQuery) (ts us : List (List RowAt)) → first.entries ≡ kept_groups (column_value query.tables) query ts → second.entries ≡ kept_groups (column_value query.tables) query us → IfOk result (λ groups. groups.entries ≡ kept_groups (column_value query.tables) query (ts ++ us))
-    }
+    ensures { (query : StarQuery) (ts us : List (List RowAt)) → first.entries ≡ kept_groups (column_value query.tables) query ts → second.entries ≡ kept_groups (column_value query.tables) query us → IfOk result (λ groups. groups.entries ≡ kept_groups (column_value query.tables) query (ts ++ us)) }
 {
     merge_each(alloc, first, second)
 }
