@@ -1,11 +1,11 @@
 -- The least and the greatest value, one more at a time.
-use Rattle.std.proofs.Common.{◌≡◌, ◌∙◌, sym, ap, refl, Bool, true, false, cond, ◌||◌}
+use Rattle.std.proofs.Common.{◌≡◌, ◌∙◌, ap, refl, true, false, cond}
 use Rattle.std.specs.Ordering.{is_gt, is_lt, ordering_reverse}
 use Rattle.std.specs.declared.cmp.Ordering.{Ordering}
 use Rattle.std.specs.declared.cmp.Ordering.TheVariants.{Less, Equal, Greater}
 use Rattle.def_meaning.specs.Meaning.{either_value, greater, lesser}
 use Rattle.def_meaning.proofs.Merging.{either_lesser}
-use Rattle.wh_base.specs.Values.{is_null, value_cmp}
+use Rattle.wh_base.specs.Values.{value_cmp}
 use Rattle.wh_base.specs.ValueLaws.{value_total}
 use Rattle.wh_base.specs.declared.values.Value.{Value}
 use Rattle.wh_base.specs.declared.values.Value.TheVariants.{Null, Num, Text, Ratio}

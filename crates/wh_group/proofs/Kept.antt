@@ -15,7 +15,7 @@ use Rattle.wh_base.specs.declared.queries.Acc.{Acc}
 use Rattle.wh_base.specs.declared.values.Value.{Value}
 use Rattle.wh_base.specs.declared.values.Value.TheVariants.{Null, Num, Text, Ratio}
 use Rattle.def_meaning.specs.Accumulated.{acc_by, acc_of, merged_acc}
-use Rattle.def_meaning.specs.Meaning.{Grouped, either_value, expr_value, greater, groups, groups_by, key_of, lesser, max_value, min_value, not_null, number_of, total_of}
+use Rattle.def_meaning.specs.Meaning.{either_value, expr_value, greater, groups, groups_by, key_of, lesser, max_value, min_value, not_null, number_of, total_of}
 use Rattle.def_meaning.proofs.Merging.{acc_of-append}
 use Rattle.wh_group.specs.Tallies.{Kept, begun, change_group, counted, kept, sum_with, tallies_with, tally_by, tally_with}
 use Rattle.wh_group.specs.declared.tally.Summed.{Summed}

@@ -1,5 +1,5 @@
 -- The entries that are made of what is kept are those of the groups.
-use Rattle.std.proofs.Common.{◌≡◌, ◌∙◌, sym, ap, subst, refl, arith, ℕ, zero, suc, ◌+◌, ◌<◌, ◌≤◌, Bool, true, false, ◌&&◌, cond, List, [], ◌∷◌, ◌++◌, length, map, drop, slice_get, Option, Some, None}
+use Rattle.std.proofs.Common.{◌≡◌, ◌∙◌, sym, ap, refl, arith, ℕ, zero, suc, ◌+◌, Bool, true, false, ◌&&◌, cond, List, [], ◌∷◌, ◌++◌, length, map, drop, slice_get, Option, Some, None}
 use Rattle.std.specs.Prelude.{flat_map, nat_lt, not, position}
 use Rattle.std.specs.List.{filter, list_all, position_or_len}
 use Rattle.std.proofs.lemmas.Bool.Decides.{nat_tests}
@@ -18,12 +18,11 @@ use Rattle.wh_base.specs.declared.queries.StarQuery.{StarQuery}
 use Rattle.wh_base.specs.declared.queries.Test.{Test}
 use Rattle.wh_base.specs.declared.values.Value.{Value}
 use Rattle.wh_base.specs.declared.values.Value.TheVariants.{Null}
-use Rattle.wh_base.specs.declared.views.ViewEntry.{ViewEntry}
 use Rattle.def_meaning.specs.Accumulated.{acc_of, acc_value, item_aggs, query_aggs, selected_aggs}
 use Rattle.def_meaning.specs.Meaning.{Grouped, agg_value, group_entry, group_item, grouped_entries, groups, key_value, test_true}
 use Rattle.def_meaning.proofs.Accumulating.{agg_value-acc}
 use Rattle.wh_group.specs.Entries.{items_row, kept_entries, kept_entry, passes, tests_true, value_beside}
-use Rattle.wh_group.specs.Tallies.{Kept, kept, kept_groups, tally_by, tally_value}
+use Rattle.wh_group.specs.Tallies.{kept, kept_groups, tally_by, tally_value}
 use Rattle.wh_group.specs.declared.tally.Tally.{Tally}
 
 -- ---- columns

@@ -1,9 +1,9 @@
 -- Columns, items and tests beside what is kept, place by place.
-use Rattle.std.proofs.Common.{◌≡◌, ◌∙◌, sym, ap, refl, arith, ℕ, zero, suc, ◌+◌, ◌<◌, ◌≤◌, Bool, true, false, ◌&&◌, cond, List, [], ◌∷◌, ◌++◌, length, map, take, drop, get_or, min}
+use Rattle.std.proofs.Common.{◌≡◌, ◌∙◌, sym, ap, refl, arith, ℕ, zero, suc, ◌+◌, ◌<◌, ◌≤◌, true, false, ◌&&◌, cond, List, [], ◌∷◌, ◌++◌, length, map, drop, get_or, min}
 use Rattle.std.specs.Prelude.{flat_map}
 use Rattle.std.specs.List.{filter}
 use Rattle.std.proofs.Math.ListN.{drop_of_length-le}
-use Rattle.std.proofs.lemmas.List.{append_assoc, append-nil, drop_more, take_more, length-append}
+use Rattle.std.proofs.lemmas.List.{append_assoc, append-nil, drop_more}
 use Rattle.wh_base.specs.Columns.{same_column}
 use Rattle.wh_base.specs.Values.{is_true_that}
 use Rattle.wh_base.specs.declared.columns.ColRef.{ColRef}
@@ -15,7 +15,7 @@ use Rattle.wh_base.specs.declared.values.Value.{Value}
 use Rattle.wh_base.specs.declared.values.Value.TheVariants.{Null}
 use Rattle.wh_base.specs.declared.views.ViewEntry.{ViewEntry}
 use Rattle.def_meaning.specs.Accumulated.{item_aggs}
-use Rattle.wh_group.specs.Entries.{item_value, items_row, kept_entries, kept_entry, next_place, passes, tally_at, tests_true, value_beside}
+use Rattle.wh_group.specs.Entries.{item_value, items_row, kept_entries, kept_entry, next_place, passes, tests_true, value_beside}
 use Rattle.wh_group.specs.Tallies.{Kept, tally_value}
 use Rattle.wh_group.specs.declared.tally.Tally.{Tally}
 

@@ -1,6 +1,6 @@
 -- What is kept of fewer than 2^20 tuples with small numbers has room for one more.
-use Rattle.std.proofs.Common.{◌≡◌, ◌∙◌, subst, sym, ap, refl, arith, ℕ, ◌+◌, ◌*◌, ◌^◌, ◌<◌, ◌≤◌, Bool, true, false, ◌&&◌, cond, List, [], ◌∷◌, length, map, take, zero, suc, IsTrue, get_or}
-use Rattle.std.specs.Prelude.{ℤ, pos, ◌+ℤ◌, ◌*ℤ◌, nat_abs, unsigned_abs}
+use Rattle.std.proofs.Common.{subst, refl, arith, ℕ, ◌+◌, ◌*◌, ◌^◌, ◌<◌, ◌≤◌, Bool, true, false, ◌&&◌, cond, List, [], ◌∷◌, length, map, take, suc, IsTrue}
+use Rattle.std.specs.Prelude.{ℤ, ◌+ℤ◌, nat_abs}
 use Rattle.std.specs.List.{filter, list_all, All}
 use Rattle.std.proofs.lemmas.Bool.Decides.{nat_tests}
 use Rattle.std.proofs.lemmas.Int.{ints, unsigned_abs-mul}
@@ -20,11 +20,10 @@ use Rattle.wh_base.specs.declared.values.Value.{Value}
 use Rattle.wh_base.specs.declared.values.Value.TheVariants.{Null, Num, Text, Ratio}
 use Rattle.def_meaning.specs.Accumulated.{acc_of}
 use Rattle.def_meaning.specs.Joined.{column_value}
-use Rattle.def_meaning.specs.Meaning.{Grouped, expr_value, groups, groups_by, key_of, not_null, number_of, total_of, values_of}
+use Rattle.def_meaning.specs.Meaning.{expr_value, groups, key_of, not_null, number_of, total_of, values_of}
 use Rattle.wh_tuple.specs.Meant.{IsSmallTuple, is_small_expr, is_small_row}
 use Rattle.wh_tuple.proofs.Small.{small_column}
-use Rattle.wh_group.specs.Tallies.{AreSmallTuples, HasRoom, HaveRoom, IsBounded, Kept, begun, counted, is_small_agg, kept, tally_by}
-use Rattle.wh_group.specs.declared.tally.Tally.{Tally}
+use Rattle.wh_group.specs.Tallies.{AreSmallTuples, HasRoom, HaveRoom, IsBounded, begun, counted, is_small_agg, kept, tally_by}
 use Rattle.wh_group.proofs.Kept.{all_none}
 use Rattle.wh_group.proofs.Keys.{Key}
 

@@ -7,7 +7,6 @@ use Rattle.std.proofs.lemmas.List.Elements.{All-head, All-tail}
 use Rattle.std.specs.Map.{lookup, set_value}
 use Rattle.indexmap.specs.IndexMap.{insert_entry}
 use Rattle.wh_base.specs.Values.{value_cmp, same_values}
-use Rattle.wh_base.specs.declared.values.Value.{Value}
 use Rattle.wh_group.specs.Tallies.{Kept, HasRoom, HaveRoom, change_group}
 use Rattle.wh_group.specs.declared.tally.Tally.{Tally}
 use Rattle.wh_group.proofs.Keys.{Key, same_by_cmp}

@@ -4,7 +4,7 @@ use Rattle.def_meaning.specs.Joined.{column_value}
 use Rattle.def_meaning.specs.Meaning.{Grouped, either_value, expr_value, greater, groups, lesser, number_of}
 use Rattle.std.specs.List.{All, list_all}
 use Rattle.std.specs.Ordering.{is_gt}
-use Rattle.std.specs.Prelude.{Bool, IsTrue, List, [], cond, map, nat_abs, not, pos, ℕ, ◌&&◌, ◌*◌, ◌+ℤ◌, ◌+◌, ◌<◌, ◌^◌, ◌∷◌, ◌≤◌, ◌||◌, true}
+use Rattle.std.specs.Prelude.{Bool, IsTrue, List, [], cond, map, nat_abs, not, pos, ◌&&◌, ◌*◌, ◌+ℤ◌, ◌+◌, ◌<◌, ◌^◌, ◌∷◌, ◌≤◌, ◌||◌, true}
 use Rattle.wh_base.specs.Values.{is_null, same_values, value_cmp}
 use Rattle.wh_base.specs.declared.columns.Agg.{Agg}
 use Rattle.wh_base.specs.declared.columns.Agg.TheVariants.{Avg, Count, CountAll, Max, Min, Sum}

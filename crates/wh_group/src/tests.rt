@@ -1,4 +1,4 @@
-use crate::{are_small_tuples, entries, finish, group, has_small_aggs};
+use crate::{Groups, are_small_tuples, entries, finish, group, has_small_aggs, merge};
 use std::alloc::{AllocError, Global};
 use std::test::Fail;
 use wh_base::columns::{Agg, ColPart, ColRef, Expr};
@@ -59,6 +59,7 @@ fn item(sign: u8) -> Item {
 }
 
 // Group columns, items, HAVING COUNT(*) above a number, and the place of an item for ORDER BY .. DESC.
+#[derive(Drop)]
 struct Case {
     keys: &'static [u8],
     items: &'static [u8],
@@ -107,17 +108,34 @@ fn push_row<'a>(tuples: &mut Tuples<'a>, row: &'a Seq<Value>) -> Result<(), Allo
     Ok(())
 }
 
-// The rows of the answer over tuples of one table with these rows, and how many entries a view would have.
-fn answer(alloc: Global, case: &Case, given: &Rows) -> Result<Option<(Rows, usize)>, AllocError> {
-    let query = query(alloc, case)?;
+// The groups of tuples of one table with these rows.
+fn grouped(
+    alloc: Global,
+    query: &StarQuery,
+    given: &[Seq<Value>],
+) -> Result<Option<Groups>, AllocError> {
     let mut tuples = Tuples::new(alloc, 1);
-    for row in given.as_slice() {
+    for row in given {
         push_row(&mut tuples, row)?;
     }
-    if tuples.len() > 262_144 || !are_small_tuples(&tuples) || !has_small_aggs(&query) {
+    if tuples.len() > 262_144 || !are_small_tuples(&tuples) || !has_small_aggs(query) {
         return Ok(None);
     }
-    let groups = group(alloc, &query, &tuples)?;
+    Ok(Some(group(alloc, query, &tuples)?))
+}
+
+// The rows of the answer, from the groups of the first three rows and those of the others, and how many entries a view has.
+fn answer(alloc: Global, case: &Case, given: &Rows) -> Result<Option<(Rows, usize)>, AllocError> {
+    let query = query(alloc, case)?;
+    let rows = given.as_slice();
+    let (front, back) = rows.split_at(rows.len().min(3));
+    let Some(first) = grouped(alloc, &query, front)? else {
+        return Ok(None);
+    };
+    let Some(second) = grouped(alloc, &query, back)? else {
+        return Ok(None);
+    };
+    let groups = merge(alloc, first, second)?;
     let stored = entries(alloc, &query, &groups)?.len();
     Ok(Some((finish(alloc, &query, groups)?, stored)))
 }
@@ -135,12 +153,47 @@ fn groups_and_rows(rt: HostRuntime) -> Result<(), Fail> {
     let alloc = rt.alloc();
     let sales = "a|x|5 b|x|~ a|~|7 ~|y|-3 b|x|4 a|x|~ ~|y|~";
     for (keys, items, above, descending, given, wanted) in [
-        (b"".as_slice(), b"ncsalg".as_slice(), -1, 0, sales, "7|4|13|13/4|-3|7"),
-        (b"".as_slice(), b"ncsalg".as_slice(), -1, 0, "", "0|0|~|~|~|~"),
+        (
+            b"".as_slice(),
+            b"ncsalg".as_slice(),
+            -1,
+            0,
+            sales,
+            "7|4|13|13/4|-3|7",
+        ),
+        (
+            b"".as_slice(),
+            b"ncsalg".as_slice(),
+            -1,
+            0,
+            "",
+            "0|0|~|~|~|~",
+        ),
         (b"".as_slice(), b"n".as_slice(), 7, 0, sales, ""),
-        (b"0".as_slice(), b"0ncs".as_slice(), 0, 0, sales, "~|2|1|-3 b|2|1|4 a|3|2|12"),
-        (b"0".as_slice(), b"0n".as_slice(), 0, 1, sales, "a|3 b|2 ~|2"),
-        (b"01".as_slice(), b"01nl".as_slice(), 0, 2, sales, "a|x|2|5 b|x|2|4 ~|y|2|-3 a|~|1|7"),
+        (
+            b"0".as_slice(),
+            b"0ncs".as_slice(),
+            0,
+            0,
+            sales,
+            "~|2|1|-3 b|2|1|4 a|3|2|12",
+        ),
+        (
+            b"0".as_slice(),
+            b"0n".as_slice(),
+            0,
+            1,
+            sales,
+            "a|3 b|2 ~|2",
+        ),
+        (
+            b"01".as_slice(),
+            b"01nl".as_slice(),
+            0,
+            2,
+            sales,
+            "a|x|2|5 b|x|2|4 ~|y|2|-3 a|~|1|7",
+        ),
         (b"1".as_slice(), b"1n".as_slice(), 1, 0, sales, "y|2 x|4"),
         (b"1".as_slice(), b"1n".as_slice(), 1, 0, "", ""),
     ] {

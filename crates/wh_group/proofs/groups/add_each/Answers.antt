@@ -1,4 +1,4 @@
-use Rattle.std.proofs.Common.{◌≡◌, ◌∙◌, ap, arith, get_or, length, take, ◌<◌}
+use Rattle.std.proofs.Common.{◌∙◌, ap, arith, get_or, length, take, ◌<◌}
 use Rattle.std.proofs.Math.ListN.{set}
 use Rattle.def_meaning.specs.Joined.{column_value}
 use Rattle.wh_base.specs.declared.columns.Agg.TheVariants.{CountAll}

@@ -1,7 +1,5 @@
-use Rattle.std.proofs.Common.{◌≡◌, map, take}
-use Rattle.def_meaning.specs.Accumulated.{query_aggs}
+use Rattle.std.proofs.Common.{◌≡◌, take}
 use Rattle.def_meaning.specs.Joined.{column_value}
-use Rattle.def_meaning.specs.Meaning.{groups}
 use Rattle.wh_group.specs.Tallies.{kept_groups}
 use Rattle.wh_group.proofs.groups.group.Given as goal
 

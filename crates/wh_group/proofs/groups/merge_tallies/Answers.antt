@@ -1,4 +1,4 @@
-use Rattle.std.proofs.Common.{◌≡◌, ◌∙◌, ap, arith, get_or, length, take, ◌<◌}
+use Rattle.std.proofs.Common.{◌∙◌, ap, arith, get_or, length, take, ◌<◌}
 use Rattle.std.proofs.Math.ListN.{set}
 use Rattle.wh_group.specs.Tallies.{merged_tally}
 use Rattle.wh_group.proofs.Adding.{length-each, merge-next}
