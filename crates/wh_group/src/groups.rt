@@ -5,6 +5,7 @@ ghost use Rattle.std.specs.Prelude.{◌≡◌, ◌≤◌, ◌^◌, ◌++◌, fla
 ghost use Rattle.wh_group.specs.Tallies.{AreSmallTuples, HasRoom, HasSmallAggs, HaveRoom, IsBounded, begun, change_group, counted, first_groups, groups_with, is_small_agg, kept_groups, merged_each, merged_tallies, tallies_with};
 ghost use Rattle.wh_tuple.specs.Meant.{IsSmallTuple, cell_value};
 
+use crate::key::KeyPart;
 use crate::tally::Tally;
 use indexmap::IndexMap;
 use std::alloc::{AllocError, Global};
@@ -36,6 +37,9 @@ impl Model for Tallies {
 
 /// Groups by their keys, in the order in which the keys came first.
 pub type Groups = IndexMap<Seq<Value>, Tallies>;
+
+/// Groups while they are counted: the values of their keys stand in the tuples.
+pub type Counted<'a> = IndexMap<Seq<KeyPart<'a>>, Tallies>;
 
 // The aggregates among the items.
 fn push_selected(aggs: &mut Vec<Agg>, items: &[Item]) -> Result<(), AllocError>
@@ -171,28 +175,28 @@ impl Tallies {
     }
 }
 
-// The key of a tuple: its values of the group columns. An error says that memory ran out.
-fn key_of(
+// The key of a tuple: its values of the group columns, where they stand. An error says that memory ran out.
+fn key_of<'a>(
     alloc: Global,
     tables: &[u32],
-    tuple: &[TupleRow<'_>],
+    tuple: &[TupleRow<'a>],
     keys: &[ColRef],
-) -> Result<Seq<Value>, AllocError>
+) -> Result<Seq<KeyPart<'a>>, AllocError>
     ensures { IfOk result (λ key. key ≡ map (column_value tables.now tuple.now) keys.now) }
 {
     let mut key = Vec::with_capacity(alloc, keys.len())?;
     for column in keys {
-        key.push(cell_of(tables, tuple, *column).copy(alloc)?)?;
+        key.push(KeyPart::new(cell_of(tables, tuple, *column)))?;
     }
     Seq::from_vec(key)
 }
 
 // One more tuple: the group of its key goes on, or a new one comes last. An error says that memory ran out.
 #[tactic(auto, using(crate::proofs::Steps::steps, crate::proofs::Rooms::begun_room))]
-fn add_to_group(
+fn add_to_group<'a>(
     alloc: Global,
-    groups: &mut Groups,
-    key: Seq<Value>,
+    groups: &mut Counted<'a>,
+    key: Seq<KeyPart<'a>>,
     tables: &[u32],
     tuple: &[TupleRow<'_>],
     aggs: &[Agg],
@@ -200,7 +204,7 @@ fn add_to_group(
     requires room { HaveRoom groups.old.entries }
     requires tuple { IsSmallTuple tuple.now }
     requires aggs { IsTrue (list_all is_small_agg aggs.now) }
-    ensures { OnOk result (groups.new.entries ≡ change_group key (tallies_with (counted (column_value tables.now tuple.now)) aggs.now) (begun aggs.now) groups.old.entries) }
+    ensures { OnOk result (groups.new.entries ≡ change_group key.entry (tallies_with (counted (column_value tables.now tuple.now)) aggs.now) (begun aggs.now) groups.old.entries) }
 {
     match groups.get_mut(&key) {
         Some(tallies) => tallies.add(alloc, tables, tuple, aggs)?,
@@ -214,12 +218,12 @@ fn add_to_group(
 }
 
 // The same of a tuple of a query.
-fn add_tuple(
+fn add_tuple<'a>(
     alloc: Global,
-    groups: &mut Groups,
+    groups: &mut Counted<'a>,
     query: &StarQuery,
     aggs: &[Agg],
-    tuple: &[TupleRow<'_>],
+    tuple: &[TupleRow<'a>],
 ) -> Result<(), AllocError>
     requires room { HaveRoom groups.old.entries }
     requires tuple { IsSmallTuple tuple.now }
@@ -232,7 +236,7 @@ fn add_tuple(
 }
 
 // The groups before the first tuple: none where there are group columns, and else the one group of all tuples.
-fn no_tuples(alloc: Global, keys: &[ColRef], aggs: &[Agg]) -> Result<Groups, AllocError>
+fn no_tuples<'a>(alloc: Global, keys: &[ColRef], aggs: &[Agg]) -> Result<Counted<'a>, AllocError>
     ensures { IfOk result (λ groups. groups.entries ≡ first_groups keys.now aggs.now) }
 {
     let mut groups = IndexMap::new(alloc);
@@ -242,12 +246,13 @@ fn no_tuples(alloc: Global, keys: &[ColRef], aggs: &[Agg]) -> Result<Groups, All
     Ok(groups)
 }
 
-/// The groups of a query over tuples with one row of each of its tables, in the order in which their keys come first. As in
-/// the SQL language, rows whose keys are NULL are one group, COUNT(*) counts all tuples, and the other aggregates leave out
-/// NULL; without group columns there is one group, also over nothing. Each number in the tuples and in the aggregates is
-/// below 10^15 in size, so that no sum leaves 128 bits. An error says that memory ran out.
+/// The groups of a query over tuples with one row of each of its tables, by keys whose values stand in the tuples.
 #[tactic(auto, using(crate::proofs::Counting::counting))]
-pub fn group(alloc: Global, query: &StarQuery, tuples: &Tuples<'_>) -> Result<Groups, AllocError>
+pub fn count<'a>(
+    alloc: Global,
+    query: &StarQuery,
+    tuples: &Tuples<'a>,
+) -> Result<Counted<'a>, AllocError>
     requires few { length tuples.now.tuples ≤ 262144 }
     requires tuples { AreSmallTuples tuples.now.tuples }
     requires aggs { HasSmallAggs query.now }

@@ -3,14 +3,16 @@
 
 mod answers;
 mod groups;
+mod key;
 mod merging;
 mod order;
 mod small;
 mod tally;
 
 pub use answers::{entries, finish};
-pub use groups::{Groups, Tallies, group, query_aggs};
-pub use merging::merge;
+pub use groups::{Counted, Groups, Tallies, count, query_aggs};
+pub use key::KeyPart;
+pub use merging::{group, merge};
 pub use small::{are_small_tuples, has_small_aggs};
 pub use tally::{Summed, Tally};
 

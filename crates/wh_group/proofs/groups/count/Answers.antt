@@ -3,7 +3,7 @@ use Rattle.def_meaning.specs.Accumulated.{query_aggs}
 use Rattle.wh_group.specs.Tallies.{HaveRoom, groups_with}
 use Rattle.wh_group.proofs.Counting.{tuples-more}
 use Rattle.wh_group.proofs.Rooms.{counting_room}
-use Rattle.wh_group.proofs.groups.group.Goals as goal
+use Rattle.wh_group.proofs.groups.count.Goals as goal
 
 pub add_tuple-requires-clause-room : goal.add_tuple-requires-clause-room
 add_tuple-requires-clause-room c =
