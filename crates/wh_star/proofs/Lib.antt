@@ -1,3 +1,5 @@
 pub mod Products
 pub mod Found
 mod Worked
+pub mod Rounds
+pub mod Extremes
