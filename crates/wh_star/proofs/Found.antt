@@ -1,9 +1,10 @@
 -- Look-ups of keys find the tuples of the product that meet every join, in the order of the product.
-use Rattle.std.proofs.Common.{◌≡◌, ◌∙◌, sym, ap, subst, refl, arith, ℕ, suc, Bool, true, false, cond, not, List, [], ◌∷◌, ◌++◌, Option, length, map, get_or, append_assoc, length-append}
+use Rattle.std.proofs.Common.{◌≡◌, ◌∙◌, sym, ap, subst, refl, arith, ℕ, suc, Bool, true, false, cond, not, List, [], ◌∷◌, ◌++◌, Option, ◌≤◌, length, map, get_or, append_assoc, length-append}
 use Rattle.std.specs.List.{AllPairs, filter, filter_map, find, list_all}
 use Rattle.std.specs.Prelude.{◌&&◌, ◌||◌, ◌==◌}
 use Rattle.std.proofs.lemmas.Bool.{eq-eqb}
 use Rattle.wh_base.proofs.Same.{same_value-Decides}
+use Rattle.wh_base.proofs.Sorting.{times}
 use Rattle.wh_base.specs.Lists.{has_number}
 use Rattle.wh_base.specs.Values.{equal_not_null, is_null, same_value}
 use Rattle.wh_base.specs.declared.columns.ColPart.{ColPart}
@@ -16,7 +17,7 @@ use Rattle.wh_base.specs.declared.values.Value.{Value}
 use Rattle.def_meaning.specs.Joined.{column_value, conditions_true, edge_true, joined_over, part_value, product, row_of}
 use Rattle.def_resolve.specs.Star.{is_key_column, leads_outwards}
 use Rattle.wh_star.specs.Found.{AreKeys, HaveKeys, IsJoinTree, completed, found_over}
-use Rattle.wh_star.proofs.Products.{append_nothing, filter-both, filter-flat_map, filter-guard, filter-map, flat_map-listed, flat_map-one, flat_map-same, listed, listed-case, map-flat_map, map-map}
+use Rattle.wh_star.proofs.Products.{append_nothing, filter-both, filter-flat_map, filter-guard, filter-map, flat_map-listed, flat_map-one, flat_map-same, listed, listed-case, map-flat_map, map-map, times-filter, times-from_pairs}
 
 -- ---- the rows of a tuple that grows
 
@@ -60,9 +61,16 @@ pub one_value : (v w : Value) → equal_not_null v w ≡ true → v ≡ w
 one_value v w h = (same_value-Decides v w).0 (both_right (not (is_null v)) (same_value v w) h)
 
 -- at most one of the rows of a key has a value
-pub one_row : (part : ColPart) (rows : List RowAt) (v : Value) → AreKeys part rows → AllPairs (λ r s. equal_not_null v (part_value r part) ≡ true → equal_not_null v (part_value s part) ≡ false) rows
-one_row part rows v keys i j d h k passes =
-    subst (λ w. equal_not_null w (part_value (get_or rows j d) part) ≡ false) (sym (one_value v (part_value (get_or rows i d) part) passes)) (keys i j d h k)
+pub one_row : (part : ColPart) (rows : List RowAt) (v : Value) → AreKeys part rows → times (λ r. equal_not_null v (part_value r part)) rows ≤ 1
+one_row part rows v keys = omega (arith, keys v, times-filter (λ r. equal_not_null v (part_value r part)) rows)
+
+-- rows of which no two have one value are those of a key
+pub keys-from_pairs : (part : ColPart) (rows : List RowAt) → AllPairs (λ r s. equal_not_null (part_value r part) (part_value s part) ≡ false) rows → AreKeys part rows
+keys-from_pairs part rows pairs v =
+    let one : times (λ r. equal_not_null v (part_value r part)) rows ≤ 1 =
+    times-from_pairs (λ r. equal_not_null v (part_value r part)) rows (λ i j d h k passes.
+    subst (λ w. equal_not_null w (part_value (get_or rows j d) part) ≡ false) (sym (one_value v (part_value (get_or rows i d) part) passes)) (pairs i j d h k)) in
+    omega (arith, one, times-filter (λ r. equal_not_null v (part_value r part)) rows)
 
 -- ---- the joins
 

@@ -1,7 +1,7 @@
 -- The tuples of a star query as look-ups of keys find them: for each row of the root, table by table in tree order, the row
 -- that the join to that table leads to from the rows found so far.
-use Rattle.std.specs.List.{All, AllPairs, filter, filter_map, find}
-use Rattle.std.specs.Prelude.{List, None, Option, Some, [], false, ℕ, ◌++◌, ◌∷◌, ◌≡◌}
+use Rattle.std.specs.List.{All, filter, filter_map, find}
+use Rattle.std.specs.Prelude.{List, None, Option, Some, [], length, ℕ, ◌++◌, ◌∷◌, ◌≤◌}
 use Rattle.def_meaning.specs.Joined.{column_value, conditions_true, part_value}
 use Rattle.def_resolve.specs.Star.{IsTreeFrom}
 use Rattle.wh_base.specs.Lists.{option_case}
@@ -19,9 +19,9 @@ use Rattle.wh_base.specs.declared.values.Value.{Value}
 abbrev pub IsJoinTree : StarQuery → Type 0
 IsJoinTree q = (defs : List TableDef) × IsTreeFrom defs q.root q.tables q.edges
 
--- no two of these rows have one value here that isn't NULL
+-- at most one of these rows has a value here, for each value that isn't NULL
 abbrev pub AreKeys : ColPart → List RowAt → Type 0
-AreKeys part rows = AllPairs (λ r s. equal_not_null (part_value r part) (part_value s part) ≡ false) rows
+AreKeys part rows = (v : Value) → length (filter (λ r. equal_not_null v (part_value r part)) rows) ≤ 1
 
 -- the far column of each of these joins is a key of its table's rows
 abbrev pub HaveKeys : List Edge → (ℕ → List RowAt) → Type 0

@@ -3,6 +3,7 @@
 #![tactic(auto)]
 
 mod equal;
+mod key_index;
 mod pruning;
 mod range;
 
