@@ -1,2 +1,4 @@
+pub mod Cells
 pub mod Chunks
-pub mod Rows
+pub mod Found
+pub mod Small

@@ -3,7 +3,12 @@
 #![tactic(auto)]
 
 mod cell;
+mod columns;
 mod tuples;
 
-pub use cell::{Cell, cell_in, cell_of};
+pub use cell::Cell;
+pub use columns::{cell_in, cell_of, condition_holds, edge_holds, expr_cell};
 pub use tuples::{TupleRow, Tuples};
+
+#[cfg(test)]
+mod tests;

@@ -1,6 +1,6 @@
 use Rattle.std.proofs.Common.{◌≡◌, drop}
 use Rattle.wh_tuple.specs.Meant.{row_found}
-use Rattle.wh_tuple.proofs.cell.row_found.Given as goal
+use Rattle.wh_tuple.proofs.columns.row_found.Given as goal
 
 -- it is found in what is left
 abbrev pub invariant-loop-at : goal.invariant-loop-at
