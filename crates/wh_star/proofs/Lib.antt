@@ -5,3 +5,7 @@ pub mod Rounds
 pub mod Extremes
 pub mod Stable
 pub mod Entries
+pub mod Scans
+pub mod Admitted
+pub mod Joins
+pub mod Meant

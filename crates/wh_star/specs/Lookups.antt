@@ -3,13 +3,14 @@ use Rattle.indexmap.specs.IndexMap.{insert_entry}
 use Rattle.std.specs.List.{filter, filter_map}
 use Rattle.std.specs.Map.{lookup}
 use Rattle.std.specs.Ordering.{eq_by_cmp}
-use Rattle.std.specs.Prelude.{Bool, List, None, Option, Some, [], cond, map, true, unwrap_or, slice_get, ℕ, ◌++◌, ◌==◌, ◌∷◌}
+use Rattle.std.specs.Prelude.{Bool, List, None, Option, Some, [], cond, length, map, not, option_map, sum_by, true, unwrap_or, slice_get, ℕ, ◌++◌, ◌==◌, ◌∷◌}
 use Rattle.def_meaning.specs.Joined.{column_value, conditions_true, part_value}
-use Rattle.def_meaning.specs.Ranges.{Seen, admitted_parts, admitted_rows}
+use Rattle.def_meaning.specs.Ranges.{Seen, admitted_parts, admitted_rows, misses}
 use Rattle.wh_base.specs.Lists.{has_number, option_case}
-use Rattle.wh_base.specs.Tables.{Places, live_rows, places_of, rows_shown}
+use Rattle.wh_base.specs.Tables.{Places, live_rows, places_of, rows_shown, with_intervals}
 use Rattle.wh_base.specs.Values.{is_null, value_cmp}
 use Rattle.wh_base.specs.declared.columns.ColPart.{ColPart}
+use Rattle.wh_base.specs.declared.columns.ColPart.TheVariants.{Col}
 use Rattle.wh_base.specs.declared.queries.Edge.{Edge}
 use Rattle.wh_base.specs.declared.queries.StarQuery.{StarQuery}
 use Rattle.wh_base.specs.declared.tables.Part.{Part}
@@ -60,14 +61,46 @@ tuples_from q indexes roots =
 
 -- ---- the rows that are read
 
--- a row of the root is read: its partition is admitted, or the root has no partitions
-abbrev pub is_admitted : StarQuery → Option ℕ → List Part → ℕ → Bool
-is_admitted q key parts mark = option_case key true (λ key. has_number (admitted_parts q parts key) mark)
+-- a row is read: its partition is one of these, or all are read
+abbrev pub is_read : Option (List ℕ) → RowAt → Bool
+is_read numbers r = option_case numbers true (λ ns. has_number ns r.mark)
+
+-- those of these rows that are read
+abbrev pub rows_in : Option (List ℕ) → List RowAt → List RowAt
+rows_in numbers rows = filter (is_read numbers) rows
+
+-- the numbers of the admitted ones among these partitions of the root, of which the first begins with this bound
+abbrev pub admitted_from : StarQuery → ℕ → Option Value → List Part → List ℕ
+admitted_from q key lo parts =
+    map (λ p. p.0.number) (filter (λ p. not (misses q (record { table = q.root; part = Col key }) p.1)) (with_intervals lo parts))
+
+-- the numbers of the partitions of the root that are read; all, where it has no partitions
+abbrev pub root_parts : StarQuery → Option ℕ → List Part → Option (List ℕ)
+root_parts q key parts = option_map (admitted_parts q parts) key
+
+-- the place of a table's partition key, and its partitions, from the lowest on
+abbrev pub key_of_parts : List (Option ℕ) → ℕ → Option ℕ
+key_of_parts keys n = unwrap_or (slice_get keys n) None
+
+abbrev pub parts_of : List (List Part) → ℕ → List Part
+parts_of partitions n = unwrap_or (slice_get partitions n) []
+
+-- the rows of the root in its admitted partitions, in the order of their places
+abbrev pub root_rows : StarQuery → List Places → List (Option ℕ) → List (List Part) → List RowAt
+root_rows q tables keys partitions =
+    rows_in (root_parts q (key_of_parts keys q.root) (parts_of partitions q.root)) (live_rows (places_of tables q.root))
+
+-- the rows of the table that a join leads to, in the order of their places
+abbrev pub far_rows : List Places → Edge → List RowAt
+far_rows tables e = live_rows (places_of tables e.to.table)
+
+-- how many rows the tables that these joins lead to have
+abbrev pub far_reads : List Places → List Edge → ℕ
+far_reads tables edges = sum_by (λ e. length (far_rows tables e)) edges
 
 -- what an evaluation sees of a table of a store
 abbrev pub seen_in : List Places → List (Option ℕ) → List (List Part) → ℕ → Seen
-seen_in tables keys parts n =
-    record { rows = rows_shown tables n; part_key = unwrap_or (slice_get keys n) None; parts = unwrap_or (slice_get parts n) [] }
+seen_in tables keys partitions n = record { rows = rows_shown tables n; part_key = key_of_parts keys n; parts = parts_of partitions n }
 
 -- the rows that the base plan reads of a table of the query: those of the root's admitted partitions and all of every other table
 abbrev pub rows_seen : StarQuery → (ℕ → Seen) → ℕ → List RowAt

@@ -38,16 +38,11 @@ impl<'a> KeyIndex<'a> {
     pub fn add(&mut self, alloc: Global, part: ColPart, row: TupleRow<'a>) -> Result<(), AllocError>
         ensures { OnOk result (self.new ≡ entry_added part self.old row.entry) }
     {
-        let key = match cell_in(&row, part) {
-            Cell::Kept(value) => {
-                if value.is_null() {
-                    return Ok(());
-                }
-                value.copy(alloc)?
-            }
-            Cell::Number(number) => Value::Num(number),
-            Cell::Null => return Ok(()),
-        };
+        let cell = cell_in(&row, part);
+        if cell.is_null() {
+            return Ok(());
+        }
+        let key = cell.copy(alloc)?;
         self.rows.insert(key, row)?;
         Ok(())
     }

@@ -3,9 +3,11 @@
 #![tactic(auto)]
 
 mod equal;
+mod joining;
 mod key_index;
 mod pruning;
 mod range;
+mod scan;
 
 pub use pruning::{misses, query_range};
 pub use range::Range;
