@@ -71,16 +71,25 @@ completed-length (i ∷ is) tables tuple (e ∷ es) whole f = by (row_under i (c
     by None g rest = cc
     by (Some r) g rest = omega (arith, rest r g, length-append tuple (r ∷ []))
 
+pub completed-width : (indexes : List Entries) (tables : List ℕ) (root : RowAt) (edges : List Edge) (whole : List RowAt) → completed_by indexes tables (root ∷ []) edges ≡ Some whole → length whole ≡ 1 + length edges
+completed-width indexes tables root edges whole e = completed-length indexes tables (root ∷ []) edges whole e
+
 pub tuple-none : (q : StarQuery) (indexes : List Entries) (root : RowAt) → completed_by indexes q.tables (root ∷ []) q.edges ≡ None → tuples_from q indexes (root ∷ []) ≡ []
 tuple-none q indexes root e = rw e refl
 
-pub tuple-true : (q : StarQuery) (indexes : List Entries) (root : RowAt) (tuple : List RowAt) → completed_by indexes q.tables (root ∷ []) q.edges ≡ Some tuple → conditions_true (column_value q.tables tuple) q.conditions ≡ true → tuples_from q indexes (root ∷ []) ≡ tuple ∷ []
-tuple-true q indexes root tuple e f = rw (e, f) refl
+pub tuple-some : (q : StarQuery) (indexes : List Entries) (root : RowAt) (tuple : List RowAt) → completed_by indexes q.tables (root ∷ []) q.edges ≡ Some tuple → tuples_from q indexes (root ∷ []) ≡ cond (conditions_true (column_value q.tables tuple) q.conditions) (tuple ∷ []) []
+tuple-some q indexes root tuple e = rw e refl
 
-pub tuple-false : (q : StarQuery) (indexes : List Entries) (root : RowAt) (tuple : List RowAt) → completed_by indexes q.tables (root ∷ []) q.edges ≡ Some tuple → conditions_true (column_value q.tables tuple) q.conditions ≡ false → tuples_from q indexes (root ∷ []) ≡ []
-tuple-false q indexes root tuple e f = rw (e, f) refl
+pub ruleset finding = (completed-width, tuple-none, tuple-some)
 
-pub ruleset adding = (completed-length, tuple-none, tuple-true, tuple-false, append-nil)
+-- the tuple that was found comes last
+pub tuple-added : {A : Type 0} (found : Bool) (done more : List A) (tuple : A) → more ≡ cond found (tuple ∷ []) [] → found ≡ true → done ++ more ≡ done ++ tuple ∷ []
+tuple-added found done more tuple e h = ap (λ ts. done ++ ts) (e ∙ ap (λ b. cond b (tuple ∷ []) []) h)
+
+pub tuple-left : {A : Type 0} (found : Bool) (done more : List A) (tuple : A) → more ≡ cond found (tuple ∷ []) [] → found ≡ false → done ++ more ≡ done
+tuple-left found done more tuple e h = ap (λ ts. done ++ ts) (e ∙ ap (λ b. cond b (tuple ∷ []) []) h) ∙ append-nil done
+
+pub ruleset adding = (tuple-added, tuple-left, append-nil)
 
 pub tuples-more : (q : StarQuery) (indexes : List Entries) (roots : List RowAt) (at : ℕ) (d : RowAt) → at < length roots → tuples_from q indexes (drop at roots) ≡ tuples_from q indexes (get_or roots at d ∷ []) ++ tuples_from q indexes (drop (at + 1) roots)
 tuples-more q indexes roots at d h =

@@ -9,3 +9,4 @@ pub mod Scans
 pub mod Admitted
 pub mod Joins
 pub mod Meant
+pub mod Samples

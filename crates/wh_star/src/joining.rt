@@ -1,5 +1,5 @@
 ghost use Rattle.std.specs.List.{All};
-ghost use Rattle.std.specs.Prelude.{◌≡◌, ◌+◌, ◌<◌, ◌≤◌, ◌∷◌, [], ◌++◌, ◌^◌, IfOk, OnOk, Some, None, cond, length};
+ghost use Rattle.std.specs.Prelude.{◌≡◌, ◌+◌, ◌<◌, ◌≤◌, ◌∷◌, [], ◌++◌, ◌^◌, IfOk, OnOk, Some, None, cond, length, true};
 ghost use Rattle.def_meaning.specs.Joined.{column_value, conditions_true, joined_over};
 ghost use Rattle.def_meaning.specs.Ranges.{admitted_parts, reads_over};
 ghost use Rattle.wh_base.specs.Tables.{rows_shown};
@@ -161,7 +161,32 @@ fn conditions_hold(tables: &[u32], tuple: &[TupleRow<'_>], conditions: &[Conditi
         .all(|condition| condition_holds(tables, tuple, condition))
 }
 
-// One more row of the root: its tuple comes last, if there is one in which every condition is true.
+// Makes the tuple of a row of the root; false where there is none in which every condition is true.
+#[tactic(auto, using(crate::proofs::Joins::finding))]
+fn find_tuple<'a>(
+    query: &StarQuery,
+    indexes: &[KeyIndex<'a>],
+    root: &TupleRow<'a>,
+    tuple: &mut Vec<TupleRow<'a>>,
+) -> Result<bool, AllocError>
+    requires { length indexes.now ≡ length query.now.edges }
+    ensures tuple { IfOk result (λ found. tuples_from query.now indexes.now (root.now ∷ []) ≡ cond found (tuple.new.items ∷ []) []) }
+    ensures width { IfOk result (λ found. found ≡ true → length tuple.new.items ≡ 1 + length query.now.edges) }
+{
+    let tables = query.tables.as_slice();
+    tuple.clear();
+    tuple.push(root.again())?;
+    if !complete(tables, query.edges.as_slice(), indexes, tuple)? {
+        return Ok(false);
+    }
+    Ok(conditions_hold(
+        tables,
+        tuple.as_slice(),
+        query.conditions.as_slice(),
+    ))
+}
+
+// One more row of the root: its tuple comes last, if there is one.
 #[tactic(auto, using(crate::proofs::Joins::adding))]
 fn add_tuple<'a>(
     query: &StarQuery,
@@ -174,13 +199,7 @@ fn add_tuple<'a>(
     requires width { tuples.old.width ≡ 1 + length query.now.edges }
     ensures { OnOk result (tuples.new ≡ record { width = tuples.old.width; tuples = tuples.old.tuples ++ tuples_from query.now indexes.now (root.now ∷ []) }) }
 {
-    let tables = query.tables.as_slice();
-    tuple.clear();
-    tuple.push(root.again())?;
-    if !complete(tables, query.edges.as_slice(), indexes, tuple)? {
-        return Ok(());
-    }
-    if conditions_hold(tables, tuple.as_slice(), query.conditions.as_slice()) {
+    if find_tuple(query, indexes, root, tuple)? {
         tuples.push(tuple.as_slice())?;
     }
     Ok(())
@@ -210,7 +229,6 @@ fn join_rows<'a>(
 /// further table that its join leads to, where there is one and every condition is true. This is the filtered cross product
 /// of the tables, by the SQL language, in which a comparison with NULL isn't true. Each row of the root's admitted partitions
 /// and each row of every other table is read once. An error says that memory ran out.
-#[tactic(auto, using(crate::proofs::Meant::meanings))]
 pub fn joined<'a, L, R: RowsOf<L>>(
     alloc: Global,
     query: &StarQuery,
@@ -229,5 +247,6 @@ pub fn joined<'a, L, R: RowsOf<L>>(
     let indexes = read_indexes(alloc, query.edges.as_slice(), rows, reads)?;
     let mut roots = read_root(alloc, query, rows, reads)?;
     sort_by_rowid(&mut roots)?;
-    join_rows(alloc, query, indexes.as_slice(), roots.as_slice())
+    let tuples = join_rows(alloc, query, indexes.as_slice(), roots.as_slice())?;
+    Ok(tuples)
 }

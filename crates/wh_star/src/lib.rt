@@ -9,5 +9,9 @@ mod pruning;
 mod range;
 mod scan;
 
+pub use joining::joined;
 pub use pruning::{misses, query_range};
 pub use range::Range;
+
+#[cfg(test)]
+mod tests;

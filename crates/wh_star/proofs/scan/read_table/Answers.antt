@@ -26,4 +26,4 @@ returns-in_err-push-clause-most g c =
     let step = rows-more numbers tables c.args.table c.loop-place.place (omega arith) in
     let further : length c.loop-place.found.items + length one ≤ length (rows_in numbers (live_rows places)) =
     one_further c.loop-place.found.items (rows_in numbers (live_rows (drop c.loop-place.place places))) one more (rows_in numbers (live_rows places)) c.loop-place.invariant.found step in
-    omega (arith, further, c.loop-place.invariant.raised, c.in-Some.ensures.raised, ap length c.in-Some.ensures.row)
+    omega (arith, further, c.loop-place.invariant.raised, c.in-Some.ensures.raised, ap length {y = one} c.in-Some.ensures.row)
