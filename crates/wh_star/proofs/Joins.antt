@@ -4,7 +4,7 @@ use Rattle.std.proofs.Math.ListN.{drop_of_length-le}
 use Rattle.std.proofs.lemmas.List.{append-nil, drop_more}
 use Rattle.std.proofs.lemmas.List.Elements.{filter-append, filter_map-append}
 use Rattle.std.proofs.lemmas.List.Sums.{sum_by-cons}
-use Rattle.std.specs.List.{filter, filter_map, sum_by}
+use Rattle.std.specs.List.{filter, filter_map}
 use Rattle.wh_base.specs.Lists.{option_case}
 use Rattle.wh_base.specs.Tables.{Places}
 use Rattle.wh_base.specs.declared.columns.ColPart.{ColPart}

@@ -1,5 +1,5 @@
 -- What is read and joined is what the definitions say of the store.
-use Rattle.std.proofs.Common.{◌≡◌, ◌∙◌, ◌+◌, ◌*◌, ◌^◌, ◌<◌, ◌≤◌, ℕ, zero, suc, Bool, true, false, cond, not, List, [], ◌∷◌, ◌++◌, Option, Some, None, length, map, get_or, refl, arith, sym, ap, subst}
+use Rattle.std.proofs.Common.{◌≡◌, ◌∙◌, ◌+◌, ◌*◌, ◌^◌, ◌<◌, ◌≤◌, ℕ, suc, Bool, true, false, cond, not, List, [], ◌∷◌, ◌++◌, Option, Some, None, length, map, get_or, refl, arith, sym, ap, subst}
 use Rattle.std.proofs.lemmas.Bool.{eq-eqb, eqb-true}
 use Rattle.std.proofs.lemmas.Cmp.{nat_cmp_total, on_total}
 use Rattle.std.proofs.lemmas.List.{length-map}
@@ -24,7 +24,7 @@ use Rattle.wh_star.proofs.Entries.{index-finds-sorted}
 use Rattle.wh_star.proofs.Found.{joined-found, one_row}
 use Rattle.wh_star.proofs.Joins.{all_rows}
 use Rattle.wh_star.proofs.Stable.{filter-sorted}
-use Rattle.wh_star.specs.Found.{AreKeys, HaveKeys, IsJoinTree, completed, found_over, row_with}
+use Rattle.wh_star.specs.Found.{AreKeys, HaveKeys, IsJoinTree, completed, row_with}
 use Rattle.wh_star.specs.Lookups.{Entries, completed_by, far_reads, far_rows, indexed, indexes_of, key_of_parts, parts_of, root_parts, root_rows, row_under, rows_in, rows_seen, seen_in, tuples_from}
 
 -- ---- the tables of a tree

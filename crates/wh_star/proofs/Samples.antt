@@ -1,39 +1,16 @@
 -- The sample store is as a store must be, and the query over it as a star query must be.
-use Rattle.std.proofs.Common.{◌≡◌, ◌∙◌, ◌+◌, ◌<◌, ◌≤◌, ℕ, zero, suc, Bool, true, false, cond, List, [], ◌∷◌, Option, Some, None, length, map, refl, arith, sym, ap, subst}
+use Rattle.std.proofs.Common.{◌≡◌, ◌<◌, ◌≤◌, ℕ, zero, suc, Bool, true, false, cond, [], ◌∷◌, Some, None, length, refl, arith, sym, subst}
 use Rattle.std.proofs.lemmas.List.Elements.{All-cons}
-use Rattle.std.specs.List.{All, filter}
+use Rattle.std.specs.List.{All}
 use Rattle.std.specs.Prelude.{slice_get}
-use Rattle.wh_base.specs.Tables.{AreSmall, HaveRowids, live_rows, most_live, place_of, places_of, rows_shown}
+use Rattle.wh_base.specs.Tables.{place_of, places_of, rows_shown}
 use Rattle.wh_base.specs.Values.{equal_not_null}
 use Rattle.wh_base.specs.declared.columns.ColPart.TheVariants.{Col}
 use Rattle.wh_base.specs.declared.queries.StarQuery.{StarQuery}
-use Rattle.wh_base.specs.declared.tables.RowAt.{RowAt}
 use Rattle.wh_base.specs.declared.tables.TableDef.{TableDef}
-use Rattle.wh_base.specs.declared.values.Value.{Value}
 use Rattle.def_meaning.specs.Joined.{part_value}
 use Rattle.wh_star.specs.Found.{AreKeys, HaveKeys, IsJoinTree}
 use Rattle.wh_star.specs.Sample.{sample_keys, sample_partitions, sample_query, sample_row, sample_tables}
-
-pub sample-few : (table : ℕ) → length (live_rows (places_of sample_tables table)) ≤ most_live
-sample-few zero = omega arith
-sample-few (suc zero) = omega arith
-sample-few (suc (suc n)) = omega arith
-
-one_differs : (m n : ℕ) → m < n → n < 1 → ⊥
-one_differs m n h k = omega arith
-
-none_differs : (m n : ℕ) → m < n → n < 0 → ⊥
-none_differs m n h k = omega arith
-
-pub sample-differ : (table : ℕ) → HaveRowids (live_rows (places_of sample_tables table))
-sample-differ zero = λ m n h k e. one_differs m n h k
-sample-differ (suc zero) = λ m n h k e. one_differs m n h k
-sample-differ (suc (suc t)) = λ m n h k e. none_differs m n h k
-
-pub sample-small : (table : ℕ) → AreSmall (live_rows (places_of sample_tables table))
-sample-small zero = refl
-sample-small (suc zero) = refl
-sample-small (suc (suc t)) = refl
 
 pub sample-places : (table : ℕ) → table < length sample_tables → length (places_of sample_tables table) ≡ 1
 sample-places zero h = refl

@@ -4,9 +4,8 @@ use Rattle.std.proofs.Math.ListN.{drop_of_length-le}
 use Rattle.std.proofs.lemmas.List.{append-nil, drop_more}
 use Rattle.std.proofs.lemmas.List.Elements.{filter-append}
 use Rattle.std.proofs.lemmas.Option.{slice_get-get_or}
-use Rattle.std.specs.List.{filter}
 use Rattle.std.specs.Option.{option_to_list}
-use Rattle.std.specs.Prelude.{IfSome, IsSome, IsTrue, slice_get, unwrap_or, ◌↔◌}
+use Rattle.std.specs.Prelude.{IfSome, IsSome, IsTrue, unwrap_or, ◌↔◌}
 use Rattle.wh_base.specs.Lists.{has_number, option_case}
 use Rattle.wh_base.specs.Tables.{Places, live_rows, place_of, places_of}
 use Rattle.wh_base.specs.declared.tables.RowAt.{RowAt}

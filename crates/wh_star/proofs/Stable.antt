@@ -1,6 +1,6 @@
 -- A list that ascends, with items that tie in a given order, is determined; so a stable sort leaves the list in order, and a list
 -- in order stays so without some of its items.
-use Rattle.std.proofs.Common.{◌≡◌, ◌∙◌, sym, ap, refl, arith, ℕ, suc, ◌+◌, Bool, true, false, cond, not, List, [], ◌∷◌, ◌++◌, append_assoc}
+use Rattle.std.proofs.Common.{◌≡◌, ◌∙◌, sym, ap, refl, arith, suc, ◌+◌, Bool, true, false, cond, not, List, [], ◌∷◌, ◌++◌, append_assoc}
 use Rattle.std.specs.Cmp.{IsTotalOrder}
 use Rattle.std.specs.List.{filter}
 use Rattle.std.specs.List.Sorted.{IsSorted, IsStable, ties}

@@ -1,12 +1,17 @@
 -- A small store and a query over it, for the tests: two tables with one row each, of the same values.
-use Rattle.std.specs.Prelude.{List, None, Option, Some, [], false, pos, ℕ, ◌∷◌}
-use Rattle.wh_base.specs.Tables.{Places}
+use Rattle.std.proofs.Common.{arith, refl, zero}
+use Rattle.std.specs.Prelude.{List, None, Option, Some, [], false, length, pos, suc, ℕ, ◌<◌, ◌≤◌, ◌∷◌}
+use Rattle.wh_base.specs.Tables.{AreSmall, HaveRowids, Places, live_rows, most_live, places_of}
 use Rattle.wh_base.specs.declared.columns.ColPart.TheVariants.{Col}
 use Rattle.wh_base.specs.declared.queries.StarQuery.{StarQuery}
 use Rattle.wh_base.specs.declared.tables.Part.{Part}
 use Rattle.wh_base.specs.declared.tables.RowAt.{RowAt}
 use Rattle.wh_base.specs.declared.values.Value.{Value}
 use Rattle.wh_base.specs.declared.values.Value.TheVariants.{Num}
+
+-- the values of a row
+abbrev pub Values : Type 0
+Values = List Value
 
 abbrev pub sample_values : List Value
 sample_values = Num (pos 7) ∷ []
@@ -39,3 +44,26 @@ sample_query =
       order = [];
       as_of = None;
     }
+
+-- ---- the sample is as a store must be
+
+pub sample-few : (table : ℕ) → length (live_rows (places_of sample_tables table)) ≤ most_live
+sample-few zero = omega arith
+sample-few (suc zero) = omega arith
+sample-few (suc (suc n)) = omega arith
+
+one_differs : (m n : ℕ) → m < n → n < 1 → ⊥
+one_differs m n h k = omega arith
+
+none_differs : (m n : ℕ) → m < n → n < 0 → ⊥
+none_differs m n h k = omega arith
+
+pub sample-differ : (table : ℕ) → HaveRowids (live_rows (places_of sample_tables table))
+sample-differ zero = λ m n h k e. one_differs m n h k
+sample-differ (suc zero) = λ m n h k e. one_differs m n h k
+sample-differ (suc (suc t)) = λ m n h k e. none_differs m n h k
+
+pub sample-small : (table : ℕ) → AreSmall (live_rows (places_of sample_tables table))
+sample-small zero = refl
+sample-small (suc zero) = refl
+sample-small (suc (suc t)) = refl

@@ -179,11 +179,7 @@ fn find_tuple<'a>(
     if !complete(tables, query.edges.as_slice(), indexes, tuple)? {
         return Ok(false);
     }
-    Ok(conditions_hold(
-        tables,
-        tuple.as_slice(),
-        query.conditions.as_slice(),
-    ))
+    Ok(conditions_hold(tables, tuple.as_slice(), query.conditions.as_slice()))
 }
 
 // One more row of the root: its tuple comes last, if there is one.

@@ -10,18 +10,11 @@ use wh_base::values::Interval;
 
 /// The query's interval of a column: what its conditions say of the column and of the columns equal to it by its joins, as in
 /// the pruning of partitions of the Data Warehousing Guide. An error says that memory ran out.
-pub fn query_range(
-    alloc: Global,
-    query: &StarQuery,
-    column: ColRef,
-) -> Result<Range, AllocError>
+pub fn query_range(alloc: Global, query: &StarQuery, column: ColRef) -> Result<Range, AllocError>
     ensures { IfOk result (λ range. range ≡ query_range query.now column) }
 {
     let columns = equal_columns(alloc, query.edges.as_slice(), column)?;
-    Ok(ranges_of(
-        columns.as_slice(),
-        query.conditions.as_slice(),
-    ))
+    Ok(ranges_of(columns.as_slice(), query.conditions.as_slice()))
 }
 
 /// Whether the query's interval of this column misses the interval: each tuple of the query has its value there outside it.

@@ -1,7 +1,6 @@
 ghost use Rattle.std.specs.Prelude.{◌≡◌, IfOk};
 ghost use Rattle.wh_base.specs.declared.columns.ColPart.TheVariants.{Col};
-ghost use Rattle.wh_star.proofs.Samples.{sample-differ, sample-few, sample-small};
-ghost use Rattle.wh_star.specs.Sample.{sample_keys, sample_partitions, sample_query, sample_tables};
+ghost use Rattle.wh_star.specs.Sample.{sample-differ, sample-few, sample-small, sample_keys, sample_partitions, sample_query, sample_tables};
 
 use crate::{joined, misses};
 use std::alloc::{AllocError, Global};
@@ -27,11 +26,10 @@ struct Sample {
 }
 
 impl Model for Sample {
-    ghost use Rattle.std.specs.Prelude.{List, [], ◌≡◌};
-    ghost use Rattle.wh_base.specs.declared.values.Value.{Value};
-    ghost use Rattle.wh_star.specs.Sample.{sample_values};
+    ghost use Rattle.std.specs.Prelude.{[], ◌≡◌};
+    ghost use Rattle.wh_star.specs.Sample.{Values, sample_values};
 
-    ghost Value = { List Value };
+    ghost Value = { Values };
 
     ghost view = { λ s. s.values };
 
@@ -152,7 +150,9 @@ fn joins_by_key(rt: HostRuntime) -> Result<(), Fail> {
 fn misses_along_joins(rt: HostRuntime) -> Result<(), Fail> {
     let alloc = rt.alloc();
     let mut query = query(alloc)?;
-    query.conditions.push(Condition::Compare(column(1), Op::Le, Value::Num(5)))?;
+    query
+        .conditions
+        .push(Condition::Compare(column(1), Op::Le, Value::Num(5)))?;
     for (lo, missed) in [(4, false), (5, false), (6, true)] {
         let interval = Interval {
             lo: Some(Value::Num(lo)),

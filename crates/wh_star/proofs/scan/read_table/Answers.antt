@@ -1,4 +1,4 @@
-use Rattle.std.proofs.Common.{◌≡◌, ◌+◌, ◌≤◌, List, length, drop, arith, ap}
+use Rattle.std.proofs.Common.{◌+◌, ◌≤◌, List, length, drop, arith, ap}
 use Rattle.std.specs.Option.{option_copied, option_to_list}
 use Rattle.wh_base.specs.Tables.{live_rows, most_live, place_of, places_of}
 use Rattle.wh_base.specs.declared.tables.RowAt.{RowAt}

@@ -8,7 +8,7 @@ use Rattle.wh_star.proofs.scan.read_table.Given as goal
 abbrev pub invariant-loop-place : goal.invariant-loop-place
 invariant-loop-place g l = record {
   found :
-    l.found.items ++ rows_in (option_copied l.numbers) (live_rows (drop l.place (places_of (g.R.RowsOf.tables l.rows) l.table)))
-    ≡ rows_in (option_copied l.numbers) (live_rows (places_of (g.R.RowsOf.tables l.rows) l.table));
+      l.found.items ++ rows_in (option_copied l.numbers) (live_rows (drop l.place (places_of (g.R.RowsOf.tables l.rows) l.table)))
+      ≡ rows_in (option_copied l.numbers) (live_rows (places_of (g.R.RowsOf.tables l.rows) l.table));
   raised : l.reads ≡ l.initial.reads + length l.found.items;
 }
