@@ -10,3 +10,6 @@ pub mod Admitted
 pub mod Joins
 pub mod Meant
 pub mod Samples
+pub mod Spread
+pub mod Within
+pub mod Pruned

@@ -4,6 +4,7 @@ ghost use Rattle.def_meaning.specs.Joined.{column_value, conditions_true, joined
 ghost use Rattle.def_meaning.specs.Ranges.{admitted_parts, reads_over};
 ghost use Rattle.wh_base.specs.Tables.{rows_shown};
 ghost use Rattle.wh_star.specs.Found.{HaveKeys, IsJoinTree};
+ghost use Rattle.wh_star.specs.Marked.{CanPrune};
 ghost use Rattle.wh_star.specs.Lookups.{completed_by, far_reads, far_rows, indexed, indexes_of, root_rows, rows_seen, seen_in, tuples_from};
 
 use crate::key_index::KeyIndex;
@@ -222,9 +223,10 @@ fn join_rows<'a>(
 }
 
 /// The tuples of a star query over a store: for each row of the root's admitted partitions, by ascending rowid, the row of each
-/// further table that its join leads to, where there is one and every condition is true. This is the filtered cross product
-/// of the tables, by the SQL language, in which a comparison with NULL isn't true. Each row of the root's admitted partitions
-/// and each row of every other table is read once. An error says that memory ran out.
+/// further table that its join leads to, where there is one and every condition is true. By the SQL language, in which a
+/// comparison with NULL isn't true, this is the filtered cross product of these rows; and that of all rows, where each row of
+/// the root stands in the partition of its key, as the Data Warehousing Guide has it of the pruning of partitions. Each row
+/// of the root's admitted partitions and each row of every other table is read once. An error says that memory ran out.
 pub fn joined<'a, L, R: RowsOf<L>>(
     alloc: Global,
     query: &StarQuery,
@@ -236,6 +238,7 @@ pub fn joined<'a, L, R: RowsOf<L>>(
     requires keys { HaveKeys query.now.edges (rows_shown (R.tables rows.now)) }
     requires room { reads.old ≤ 2 ^ 63 }
     ensures tuples { IfOk result (λ tuples. tuples ≡ record { width = length query.now.tables; tuples = joined_over query.now (rows_seen query.now (seen_in (R.tables rows.now) (R.keys rows.now) (R.partitions rows.now))) }) }
+    ensures all { CanPrune query.now (seen_in (R.tables rows.now) (R.keys rows.now) (R.partitions rows.now)) → IfOk result (λ tuples. tuples.tuples ≡ joined_over query.now (rows_shown (R.tables rows.now))) }
     ensures raised { OnOk result (reads.new ≡ reads.old + reads_over query.now (seen_in (R.tables rows.now) (R.keys rows.now) (R.partitions rows.now))) }
     ensures least { reads.old ≤ reads.new }
     ensures most { reads.new ≤ reads.old + reads_over query.now (seen_in (R.tables rows.now) (R.keys rows.now) (R.partitions rows.now)) }

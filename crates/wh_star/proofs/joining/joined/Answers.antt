@@ -3,7 +3,8 @@ use Rattle.std.proofs.lemmas.List.{length-map}
 use Rattle.std.specs.List.{All}
 use Rattle.wh_base.specs.declared.queries.Edge.{Edge}
 use Rattle.wh_star.proofs.Meant.{all-most, all-raised, far-most, far-room, far-tables, joined-is, root-table, tables-length}
-use Rattle.wh_star.specs.Lookups.{far_rows, indexed, indexes_of}
+use Rattle.wh_star.proofs.Pruned.{joined-pruned}
+use Rattle.wh_star.specs.Lookups.{seen_in, far_rows, indexed, indexes_of}
 use Rattle.wh_star.proofs.joining.joined.Goals as goal
 
 pub read_indexes-requires-clause-tables : goal.read_indexes-requires-clause-tables
@@ -61,6 +62,18 @@ returns-clause-tuples g c =
     c.in_ok-roots.ensures.rows
     (c.as_slice-3.ensures.value ∙ c.in_ok-sort_by_rowid.ensures) in
     c.in_ok-tuples.ensures ∙ (λ i. record { width = length c.args.query.now.tables; tuples = same i })
+
+pub returns-clause-all : goal.returns-clause-all
+returns-clause-all g c = λ can.
+    let tables = g.R.RowsOf.tables c.args.rows.now in
+    let keys = g.R.RowsOf.keys c.args.rows.now in
+    let partitions = g.R.RowsOf.partitions c.args.rows.now in
+    let same = joined-is tables keys partitions c.args.query.now
+    c.as_slice-2.result.now c.in_ok-roots.roots.items c.as_slice-3.result.now c.requires.tree c.requires.keys
+    (c.as_slice-2.ensures.value ∙ c.in_ok-indexes.ensures.indexes ∙ ap (indexes_of tables) c.as_slice.ensures.items)
+    c.in_ok-roots.ensures.rows
+    (c.as_slice-3.ensures.value ∙ c.in_ok-sort_by_rowid.ensures) in
+    ap (λ t. t.tuples) c.in_ok-tuples.ensures ∙ same ∙ joined-pruned c.args.query.now (seen_in tables keys partitions) c.requires.tree can
 
 pub returns-clause-raised : goal.returns-clause-raised
 returns-clause-raised g c =
