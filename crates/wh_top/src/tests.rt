@@ -113,18 +113,18 @@ fn other_words(rt: HostRuntime) -> Result<(), Fail> {
     Ok(())
 }
 
-/// White space of the greatest length is read whole, and has no end; one byte more is too long.
+/// Bytes of the greatest length are read whole, and are no text; one byte more is too long.
 #[test]
 fn greatest_length(rt: HostRuntime) -> Result<(), Fail> {
     let alloc = rt.alloc();
-    let no_end = Status::BadScript {
+    let not_utf8 = Status::BadScript {
         line: 1,
-        kind: ScriptKind::NoEnd,
+        kind: ScriptKind::NotUtf8,
     };
-    for (length, status) in [(8388608, no_end), (8388609, Status::TooLong)] {
+    for (length, status) in [(8388608, not_utf8), (8388609, Status::TooLong)] {
         let mut reads = counters(alloc)?;
         let mut bytes = Vec::new(alloc);
-        bytes.resize(length, b' ')?;
+        bytes.resize(length, 0xff)?;
         let mut source = MemorySource::new(bytes, 4096, Vec::new(alloc));
         let mut sink = MemorySink::new(alloc, 4, Vec::new(alloc));
         let order = words(alloc, &["order"])?;
