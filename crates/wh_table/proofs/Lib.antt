@@ -1,0 +1,5 @@
+pub mod Ordered
+pub mod Living
+pub mod Counting
+pub mod Seen
+pub mod Keeping

@@ -1,0 +1,8 @@
+//! Tables of row versions, and images of them that are read at an SCN.
+#![tactic(auto)]
+
+mod meaning;
+mod table;
+
+pub use meaning::laws;
+pub use table::Table;
