@@ -1,5 +1,5 @@
 -- What is true of each table stays true with each call.
-use Rattle.std.proofs.Common.{◌≡◌, ◌∙◌, sym, ap, refl, subst, arith, ℕ, zero, suc, ◌+◌, ◌<◌, ◌≤◌, max, Bool, true, false, cond, not, ◌&&◌, ◌==◌, List, [], ◌∷◌, ◌++◌, length, Option, None, Some, IsTrue, slice_get, nat_le}
+use Rattle.std.proofs.Common.{◌≡◌, ◌∙◌, sym, ap, refl, subst, arith, ℕ, zero, suc, ◌+◌, ◌<◌, ◌≤◌, max, Bool, true, false, cond, not, ◌&&◌, ◌==◌, List, [], ◌∷◌, ◌++◌, length, Option, None, Some, IsTrue, IfSome, IsSomeAnd, slice_get, nat_le, ◌-◌}
 use Rattle.std.proofs.lemmas.Bool.{le-leb, leb-true}
 use Rattle.std.proofs.lemmas.List.{length_push}
 use Rattle.std.specs.List.{All, filter, list_all}
@@ -10,7 +10,7 @@ use Rattle.wh_base.specs.declared.tables.TableDef.{TableDef}
 use Rattle.wh_base.specs.declared.values.Value.{Value}
 use Rattle.wh_segment.specs.Versions.{born_at, ended_at, is_live, rows_at}
 use Rattle.wh_segment.specs.declared.version.Version.{Version}
-use Rattle.wh_table.specs.Stored.{IsNamed, IsSmallRow, IsStored, Stored, begun, deleted, given_at, inserted, last_scn, live_count, rowid_at, rows_living, updated}
+use Rattle.wh_table.specs.Stored.{IsHeld, IsNamed, IsSmallRow, IsStored, Stored, begun, deleted, given_at, inserted, last_scn, live_count, rowid_at, rows_living, updated}
 use Rattle.wh_table.proofs.Counting.{all_from, all_named_ended, count_append, count_ended, each_from, given_append, given_ended, last_append, last_ended}
 use Rattle.wh_table.proofs.Living.{differ_filter, differ_from, differ_push, filter_apart, have_from, settled_count}
 use Rattle.wh_table.proofs.Ordered.{Differ, Each, each_append, each_weaker, keeps}
@@ -190,3 +190,60 @@ last_deleted s scn place v e live h = let last = last_ended s.versions place scn
 pub last_updated : (s : Stored) (scn place : ℕ) (values : List Value) (v : Version) → slice_get s.versions place ≡ Some v → is_live v ≡ true → last_scn s.versions ≤ scn
     → last_scn (updated scn place values s).versions ≤ scn
 last_updated s scn place values v e live h = let last = updated_last s scn place values v e live in omega (arith, last, h)
+
+-- ---- the same by the words of the calls
+
+-- a live version stands at a place
+abbrev pub LivesAt : List Version → ℕ → Type 0
+LivesAt vs place = IsSomeAnd (slice_get vs place) (λ v. IsTrue (is_live v))
+
+pub live_version : (vs : List Version) (place : ℕ) → LivesAt vs place → (v : Version) × ((slice_get vs place ≡ Some v) × (is_live v ≡ true))
+live_version vs place h = by (slice_get vs place) refl h
+  where
+    by : (o : Option Version) → slice_get vs place ≡ o → IsSomeAnd o (λ v. IsTrue (is_live v)) → (v : Version) × ((slice_get vs place ≡ Some v) × (is_live v ≡ true))
+    by None e h = absurd h
+    by (Some v) e h = (v, (e, h))
+
+abbrev pub stored_as : TableDef → List Version → ℕ → Stored
+stored_as def versions given = record { def = def; versions = versions; given = given }
+
+pub held_insert : (live : ℕ) (def : TableDef) (vs ws : List Version) (given scn : ℕ) (values : List Value) → IsHeld live (stored_as def vs given)
+    → last_scn vs ≤ scn → live_count (stored_as def vs given) < most_live → IsSmallRow values → ws ≡ vs ++ born_at scn (given + 1) 0 values ∷ []
+    → IsHeld (live + 1) (stored_as def ws (given + 1))
+held_insert live def vs ws given scn values h settled room small e = subst (λ us. IsHeld (live + 1) (stored_as def us (given + 1))) (sym e) (record {
+    stored = kept_inserted (stored_as def vs given) scn values h.stored settled room small;
+    counted = ap (λ n. n + 1) h.counted ∙ sym (count_inserted (stored_as def vs given) scn values);
+  })
+
+pub held_delete : (live : ℕ) (def : TableDef) (vs ws : List Version) (given scn place : ℕ) → IsHeld live (stored_as def vs given)
+    → last_scn vs ≤ scn → LivesAt vs place → ws ≡ ended_at place scn vs → IsHeld (live - 1) (stored_as def ws given)
+held_delete live def vs ws given scn place h settled there e =
+    let v = live_version vs place there in
+    let less = count_deleted (stored_as def vs given) scn place v.0 v.1.0 v.1.1 in
+    let all = h.counted in
+    subst (λ us. IsHeld (live - 1) (stored_as def us given)) (sym e) (record {
+      stored = kept_deleted (stored_as def vs given) scn place v.0 h.stored settled v.1.0 v.1.1;
+      counted = omega (arith, less, all);
+    })
+
+pub held_update : (live : ℕ) (def : TableDef) (vs cs us ws : List Version) (given scn place rowid : ℕ) (values : List Value) → IsHeld live (stored_as def vs given)
+    → last_scn vs ≤ scn → LivesAt vs place → IsSmallRow values → cs ≡ vs → IfSome (slice_get cs place) (λ v. rowid ≡ v.rowid) → us ≡ ended_at place scn cs → ws ≡ us ++ born_at scn rowid 0 values ∷ []
+    → IsHeld live (stored_as def ws given)
+held_update live def vs cs us ws given scn place rowid values h settled there small copied named ends begins =
+    let v = live_version vs place there in
+    let has_name : IfSome (slice_get vs place) (λ v. rowid ≡ v.rowid) = subst (λ xs. IfSome (slice_get xs place) (λ v. rowid ≡ v.rowid)) copied named in
+    let is_name : rowid ≡ v.0.rowid = subst (λ o. IfSome o (λ v. rowid ≡ v.rowid)) v.1.0 has_name in
+    let name : rowid ≡ rowid_at (stored_as def vs given) place = is_name ∙ sym (rowid_is (stored_as def vs given) place v.0 v.1.0) in
+    let ended : us ≡ ended_at place scn vs = ends ∙ ap (ended_at place scn) copied in
+    let same : ws ≡ ended_at place scn vs ++ born_at scn (rowid_at (stored_as def vs given) place) 0 values ∷ [] = begins ∙ (λ i. ended i ++ born_at scn (name i) 0 values ∷ []) in
+    subst (λ xs. IsHeld live (stored_as def xs given)) (sym same) (record {
+      stored = kept_updated (stored_as def vs given) scn place values v.0 h.stored settled v.1.0 v.1.1 small;
+      counted = h.counted ∙ sym (count_updated (stored_as def vs given) scn place values v.0 v.1.0 v.1.1);
+    })
+
+pub some_live : (live : ℕ) (def : TableDef) (vs : List Version) (given scn place : ℕ) → IsHeld live (stored_as def vs given) → LivesAt vs place → 1 ≤ live
+some_live live def vs given scn place h there =
+    let v = live_version vs place there in
+    let less = count_deleted (stored_as def vs given) scn place v.0 v.1.0 v.1.1 in
+    let all = h.counted in
+    omega (arith, less, all)

@@ -3,3 +3,5 @@ pub mod Living
 pub mod Counting
 pub mod Seen
 pub mod Keeping
+pub mod Reading
+pub mod Changing
