@@ -1,9 +1,10 @@
 -- What a change of a table keeps of an image.
-use Rattle.std.proofs.Common.{◌≡◌, ◌∙◌, sym, ap, refl, subst, arith, ℕ, zero, suc, ◌+◌, ◌<◌, ◌≤◌, ◌^◌, Bool, true, List, [], ◌∷◌, ◌++◌, length, Option, None, Some, IfSome, slice_get, slice_set, slice_index_or}
+use Rattle.std.proofs.Common.{◌≡◌, ◌∙◌, sym, ap, refl, subst, arith, ℕ, zero, suc, ◌+◌, ◌-◌, ◌<◌, ◌≤◌, ◌^◌, Bool, true, List, [], ◌∷◌, ◌++◌, length, Option, None, Some, IfSome, slice_get, slice_set, slice_index_or}
 use Rattle.std.proofs.lemmas.List.{length_push}
 use Rattle.std.proofs.lemmas.List.Elements.{All-push}
 use Rattle.std.proofs.lemmas.Option.{slice_get-get_or}
 use Rattle.std.specs.List.{All}
+use Rattle.std.specs.Prelude.{Err, Ok, OnErr, OnOk, Result}
 use Rattle.wh_base.specs.Tables.{most_live}
 use Rattle.wh_base.specs.declared.tables.Part.{Part}
 use Rattle.wh_base.specs.declared.values.Value.{Value}
@@ -35,6 +36,11 @@ pub set_same : (tables : List Stored) (n : ℕ) (s t : Stored) → slice_get tab
 set_same [] n s t e is = absurd (none_not_some s e)
 set_same (u ∷ tables) zero s t e is = ap (λ v. v ∷ tables) (is ∙ sym (some_same u s e))
 set_same (u ∷ tables) (suc n) s t e is = ap (λ rest. u ∷ rest) (set_same tables n s t e is)
+
+-- what holds of the list after a call that changed it where it is Ok, and left it as it was where it is Err
+pub either_way : {T E : Type 0} (r : Result T E) (new changed old : List Stored) (P : List Stored → Type 0) → OnOk r (new ≡ changed) → OnErr r (new ≡ old) → P changed → P old → P new
+either_way (Ok x) new changed old P ok err p q = subst P (sym ok) p
+either_way (Err e) new changed old P ok err p q = subst P (sym err) q
 
 -- ---- what is kept
 
@@ -76,28 +82,25 @@ kept_change scn change tables parts n h f =
       none = h.none;
     }
 
-pub kept_as : (scn : ℕ) (tables more : List Stored) (parts : List Part) → more ≡ tables → AreKept scn tables parts → AreKept scn more parts
-kept_as scn tables more parts is h = subst (λ ts. AreKept scn ts parts) (sym is) h
-
 pub kept_insert : (scn : ℕ) (tables : List Stored) (parts : List Part) (n : ℕ) (values : List Value) → AreKept scn tables parts → IfSome (slice_get tables n) (λ s. live_count s < most_live) → IsSmallRow values
-    → (more : List Stored) → more ≡ with_change n (inserted (scn + 1) values) tables → AreKept scn more parts
-kept_insert scn tables parts n values h room small more is =
-    kept_as scn _ more parts is (kept_change scn (inserted (scn + 1) values) tables parts n h
-    (λ s e k. (kept_inserted s (scn + 1) values k.0 k.1 (if_there tables n s (λ s. live_count s < most_live) e room) small, last_inserted s (scn + 1) values k.1)))
+    → AreKept scn (with_change n (inserted (scn + 1) values) tables) parts
+kept_insert scn tables parts n values h room small =
+    kept_change scn (inserted (scn + 1) values) tables parts n h
+    (λ s e k. (kept_inserted s (scn + 1) values k.0 k.1 (if_there tables n s (λ s. live_count s < most_live) e room) small, last_inserted s (scn + 1) values k.1))
 
 pub kept_delete : (scn : ℕ) (tables : List Stored) (parts : List Part) (n place : ℕ) → AreKept scn tables parts → IfSome (slice_get tables n) (λ s. LivesAt s.versions place)
-    → (more : List Stored) → more ≡ with_change n (deleted (scn + 1) place) tables → AreKept scn more parts
-kept_delete scn tables parts n place h lives more is =
-    kept_as scn _ more parts is (kept_change scn (deleted (scn + 1) place) tables parts n h
+    → AreKept scn (with_change n (deleted (scn + 1) place) tables) parts
+kept_delete scn tables parts n place h lives =
+    kept_change scn (deleted (scn + 1) place) tables parts n h
     (λ s e k. (let v = live_version s.versions place (if_there tables n s (λ s. LivesAt s.versions place) e lives) in
-    (kept_deleted s (scn + 1) place v.0 k.0 k.1 v.1.0 v.1.1, last_deleted s (scn + 1) place v.0 v.1.0 v.1.1 k.1))))
+    (kept_deleted s (scn + 1) place v.0 k.0 k.1 v.1.0 v.1.1, last_deleted s (scn + 1) place v.0 v.1.0 v.1.1 k.1)))
 
 pub kept_update : (scn : ℕ) (tables : List Stored) (parts : List Part) (n place : ℕ) (values : List Value) → AreKept scn tables parts → IfSome (slice_get tables n) (λ s. LivesAt s.versions place) → IsSmallRow values
-    → (more : List Stored) → more ≡ with_change n (updated (scn + 1) place values) tables → AreKept scn more parts
-kept_update scn tables parts n place values h lives small more is =
-    kept_as scn _ more parts is (kept_change scn (updated (scn + 1) place values) tables parts n h
+    → AreKept scn (with_change n (updated (scn + 1) place values) tables) parts
+kept_update scn tables parts n place values h lives small =
+    kept_change scn (updated (scn + 1) place values) tables parts n h
     (λ s e k. (let v = live_version s.versions place (if_there tables n s (λ s. LivesAt s.versions place) e lives) in
-    (kept_updated s (scn + 1) place values v.0 k.0 k.1 v.1.0 v.1.1 small, last_updated s (scn + 1) place values v.0 v.1.0 v.1.1 k.1))))
+    (kept_updated s (scn + 1) place values v.0 k.0 k.1 v.1.0 v.1.1 small, last_updated s (scn + 1) place values v.0 v.1.0 v.1.1 k.1)))
 
 -- the table with this number wasn't changed after the next SCN
 pub settled_there : (scn : ℕ) (tables : List Stored) (parts : List Part) (n : ℕ) (s : Stored) → AreKept scn tables parts → slice_get tables n ≡ Some s → last_scn s.versions ≤ scn + 1
@@ -123,13 +126,17 @@ kept_raised scn tables parts h = record {
   none = h.none;
 }
 
-pub kept_pushed : (scn : ℕ) (tables more : List Stored) (parts : List Part) (s : Stored) → AreKept scn tables parts → IsStored s → last_scn s.versions ≤ scn + 1 → length more < 2 ^ 32 → more ≡ tables ++ s ∷ []
-    → AreKept scn more parts
-kept_pushed scn tables more parts s h stored settled few is = record {
-  stored = subst (All IsStored) (sym is) (All-push IsStored tables s h.stored stored);
-  settled = subst (All (λ s. last_scn s.versions ≤ scn + 1)) (sym is) (All-push (λ s. last_scn s.versions ≤ scn + 1) tables s h.settled settled);
-  few = few;
+pub kept_pushed : (scn : ℕ) (tables : List Stored) (parts : List Part) (s : Stored) → AreKept scn tables parts → IsStored s → last_scn s.versions ≤ scn + 1 → length tables < 2 ^ 32 - 1 → AreKept scn (tables ++ s ∷ []) parts
+kept_pushed scn tables parts s h stored settled few = record {
+  stored = All-push IsStored tables s h.stored stored;
+  settled = All-push (λ s. last_scn s.versions ≤ scn + 1) tables s h.settled settled;
+  few = (let pushed = length_push tables s in omega (arith, pushed, few));
   none = h.none;
 }
 
-pub ruleset changing = (kept_insert, kept_delete, kept_update, kept_raised, kept_pushed, kept_as, settled_if)
+pub pushed_way : {T E : Type 0} (scn : ℕ) (tables new : List Stored) (parts : List Part) (s : Stored) (r : Result T E) → AreKept scn tables parts → IsStored s → last_scn s.versions ≤ scn + 1
+    → OnOk r (new ≡ tables ++ s ∷ []) → OnOk r (length tables < 2 ^ 32 - 1) → OnErr r (new ≡ tables) → AreKept scn new parts
+pushed_way scn tables new parts s (Ok u) h stored settled ok few err = subst (λ ts. AreKept scn ts parts) (sym ok) (kept_pushed scn tables parts s h stored settled few)
+pushed_way scn tables new parts s (Err e) h stored settled ok few err = subst (λ ts. AreKept scn ts parts) (sym err) h
+
+pub ruleset changing = (kept_raised, settled_if)

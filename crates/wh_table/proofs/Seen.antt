@@ -4,7 +4,7 @@ use Rattle.std.proofs.lemmas.Bool.{leb-true, eqb-true}
 use Rattle.std.proofs.lemmas.List.{map-append}
 use Rattle.std.specs.List.{All, filter}
 use Rattle.wh_base.specs.Lists.{change_where, option_case, where_true}
-use Rattle.wh_base.specs.Tables.{Places, Row, Table, live_rows, mark_of, part_of_key, row_at, row_key, rows_shown, table_after}
+use Rattle.wh_base.specs.Tables.{Places, Row, Table, live_rows, mark_of, part_of_key, row_at, row_key, rows_shown, table_after, with_table}
 use Rattle.wh_base.specs.declared.tables.RowAt.{RowAt}
 use Rattle.wh_base.specs.declared.tables.TableDef.{TableDef}
 use Rattle.wh_base.specs.declared.values.Value.{Value}
@@ -12,6 +12,7 @@ use Rattle.def_meaning.specs.Joined as meaning
 use Rattle.wh_segment.proofs.Lawful.{lawful}
 use Rattle.wh_segment.specs.Versions.{born_at, ended_at, is_live, rows_at}
 use Rattle.wh_segment.specs.declared.version.Version.{Version}
+use Rattle.wh_table.specs.Imaged.{with_change}
 use Rattle.wh_table.specs.Laws.{Laws}
 use Rattle.wh_table.specs.Stored.{IsNamed, IsStored, Stored, base_seen, deleted, deletion, given_at, inserted, insertion, last_scn, places_at, plain_row, rowid_at, rows_living, seen, update, updated}
 use Rattle.wh_table.proofs.Counting.{each_from, each_get, given_append, given_ended}
@@ -247,11 +248,21 @@ shown [] at n h = refl
 shown (s ∷ tables) at zero h = plain_back s at (sort [] (rows_living at s)) (each_sort (IsRowOf s.given) [] (rows_living at s) tt (rows_named s at h.0))
 shown (s ∷ tables) at (suc n) h = shown tables at n h.1
 
+some_same : (x y : Stored) → Some x ≡ Some y → x ≡ y
+some_same x y e = cc
+
+changed_base : (change : Stored → Stored) (tables : List Stored) (at n : ℕ) (s : Stored) → slice_get tables n ≡ Some s
+    → base_seen at (with_change n change tables) ≡ with_table (base_seen at tables) n (seen at (change s))
+changed_base change [] at n s e = refl
+changed_base change (t ∷ tables) at zero s e = ap (λ u. seen at (change u) ∷ base_seen at tables) (some_same t s e)
+changed_base change (t ∷ tables) at (suc n) s e = ap (λ rest. seen at t ∷ rest) (changed_base change tables at n s e)
+
 pub laws_hold : Laws
 laws_hold = record {
   inserts = inserts;
   deletes = deletes;
   updates = updates;
+  changes = changed_base;
   settles = λ s at h. settled_count at s.versions h;
   shows = λ tables at n h. shown tables at n (each_from IsStored tables h);
 }

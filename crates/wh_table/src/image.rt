@@ -87,11 +87,8 @@ impl<L> Image<L> {
         ensures ok { OnOk result (self.new.tables.items ≡ self.old.tables.items ++ table ∷ []) }
         ensures err { OnErr result (self.new.tables.items ≡ self.old.tables.items) }
     {
-        if self.tables.len() >= MOST {
-            return Err(AllocError);
-        }
         let _ = table.live();
-        self.tables.push(table)?;
+        push_to(&mut self.tables, table)?;
         Ok(())
     }
 
@@ -165,6 +162,19 @@ fn copied_tables<L>(alloc: Global, tables: &[Table<L>]) -> Result<Vec<Table<L>>,
         copies.push(table.copy()?)?;
     }
     Ok(copies)
+}
+
+/// One table more. After an error, which says that memory ran out or that there are 2^32 - 1 tables, they are as they were.
+fn push_to<L>(tables: &mut Vec<Table<L>>, table: Table<L>) -> Result<(), AllocError>
+    ensures ok { OnOk result (tables.new.items ≡ tables.old.items ++ table ∷ []) }
+    ensures few { OnOk result (length tables.old.items < 2 ^ 32 - 1) }
+    ensures err { OnErr result (tables.new.items ≡ tables.old.items) }
+{
+    if tables.len() >= MOST {
+        return Err(AllocError);
+    }
+    tables.push(table)?;
+    Ok(())
 }
 
 /// `Table::insert` at the table with this number.

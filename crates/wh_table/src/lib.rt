@@ -6,5 +6,5 @@ mod meaning;
 mod table;
 
 pub use image::Image;
-pub use meaning::laws;
+pub use meaning::{image_law, laws};
 pub use table::Table;
