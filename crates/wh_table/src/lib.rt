@@ -8,3 +8,6 @@ mod table;
 pub use image::Image;
 pub use meaning::{image_law, laws};
 pub use table::Table;
+
+#[cfg(test)]
+mod tests;
