@@ -29,6 +29,7 @@ class Case:
     name: str
     rows: int
     statements: Callable[[int], Iterator[str]]
+    refused: bool = False  # all but the first statement are refused, by both programs
 
 
 def sales(first: int, count: int) -> str:
@@ -54,13 +55,29 @@ def one_insert(rows: int) -> Iterator[str]:
     yield "SELECT G, SUM(A), COUNT(*) FROM SALES GROUP BY G"
 
 
-# Each case stands here twice, with ten times more rows, so that it is seen how the time grows.
+READ_ROWS = 30_000  # about 1 MiB of statements
+
+
+def refused_inserts(rows: int) -> Iterator[str]:
+    """INSERT statements of 100 rows each into a table that isn't there, so that they are read and no more."""
+    yield "CREATE TABLE SALES (G VARCHAR2(10), A NUMBER)"
+    for first in range(0, rows, 100):
+        each = (f"({row * 7919 % 1_000_003}, 'REGION{row * 31 % 1000:03}', {row}, -{row % 97})" for row in range(first, first + 100))
+        yield f"INSERT INTO NOWHERE VALUES {', '.join(each)}"
+
+
+# Most cases stand here twice, with ten times more rows, so that it is seen how the time grows.
 CASES = [
     Case("totals", 20_000, totals),
     Case("totals", 200_000, totals),
     Case("one insert", 20_000, one_insert),
     Case("one insert", 200_000, one_insert),
+    Case("read", READ_ROWS, refused_inserts, refused=True),
+    Case("read", 4 * READ_ROWS, refused_inserts, refused=True),
+    Case("read", 8 * READ_ROWS, refused_inserts, refused=True),
 ]
+
+LOAD_LINES = 262_144
 
 
 def mviewdb_script(statements: Iterator[str]) -> Iterator[str]:
@@ -100,6 +117,12 @@ def answer_rows(transcript: Path) -> Iterator[str]:
                 left = int(header[1])
 
 
+def refusals(output: Path, mark: str) -> int:
+    """How many lines of a program's output tell a refusal."""
+    with open(output, encoding="utf-8") as lines:
+        return sum(mark in line for line in lines)
+
+
 def answers_agree(transcript: Path, rows: Path) -> bool:
     """Whether both programs answered the same rows, in whatever order."""
     with open(rows, encoding="utf-8") as lines:
@@ -115,8 +138,9 @@ class Run:
 
 
 def run(command: list[str], script: Path, output: Path) -> Run:
-    """One run of a program that reads the script: its time from start to end, and its peak memory."""
-    with open(script, "rb") as source, open(output, "wb") as sink, tempfile.TemporaryFile() as errors:
+    """One run of a program that reads the script: its time from start to end, and its peak memory. What it writes to
+    standard error goes to a file beside its output."""
+    with open(script, "rb") as source, open(output, "wb") as sink, open(f"{output}.errors", "w+b") as errors:
         started = time.perf_counter()
         child = subprocess.Popen(command, stdin=source, stdout=sink, stderr=errors)
         watch = threading.Timer(LIMIT, child.kill)
@@ -126,20 +150,31 @@ def run(command: list[str], script: Path, output: Path) -> Run:
         watch.cancel()
         child.returncode = os.waitstatus_to_exitcode(state)
         errors.seek(0)
-        text = errors.read().decode(errors="replace").strip()
+        text = errors.read(200).decode(errors="replace").strip()
         if seconds >= LIMIT:
             text = f"stopped after {LIMIT} seconds"
     return Run(child.returncode, seconds, usage.ru_maxrss * 1024, text)
 
 
-def runs(command: list[str], script: Path, output: Path) -> list[Run]:
-    """Several runs, or those up to the first one that failed."""
+def runs(command: list[str], script: Path, output: Path, wanted: int = 0) -> list[Run]:
+    """Several runs, or those up to the first one that ended with another status than the one wanted."""
     found = []
     for _ in range(RUNS):
         found.append(run(command, script, output))
-        if found[-1].status != 0:
+        if found[-1].status != wanted:
             break
     return found
+
+
+def agree(case: Case, transcript: Path, rows: Path) -> bool:
+    """Whether both programs answered the same rows, or refused the same number of statements."""
+    if case.refused:
+        return refusals(transcript, " REFUSED MV-02 ") == refusals(Path(f"{rows}.errors"), "no such table")
+    return answers_agree(transcript, rows)
+
+
+def median_of(found: list[Run]) -> float:
+    return statistics.median(it.seconds for it in found)
 
 
 def measure(case: Case, program: Path, sqlite: str, folder: Path, worker: Executor) -> tuple[str, ...]:
@@ -153,12 +188,13 @@ def measure(case: Case, program: Path, sqlite: str, folder: Path, worker: Execut
     mine = runs([str(program), "order"], ours, transcript)
     if mine[-1].status != 0:
         return (*head, f"mviewdb ended with status {mine[-1].status}: {mine[-1].errors}")
-    other = runs([sqlite, "-batch", "-list", "-separator", "|", ":memory:"], theirs, rows)
-    if other[-1].status != 0:
+    wanted = 1 if case.refused else 0
+    other = runs([sqlite, "-batch", "-list", "-separator", "|", ":memory:"], theirs, rows, wanted)
+    if other[-1].status != wanted:
         return (*head, f"sqlite3 ended with status {other[-1].status}: {other[-1].errors}")
-    if not worker.submit(answers_agree, transcript, rows).result():
+    if not worker.submit(agree, case, transcript, rows).result():
         return (*head, "the answers differ")
-    mine_seconds, other_seconds = (statistics.median(it.seconds for it in found) for found in (mine, other))
+    mine_seconds, other_seconds = median_of(mine), median_of(other)
     peak = max(it.peak for it in mine)
     return (
         *head,
@@ -181,6 +217,26 @@ def show(cells: tuple[str, ...]) -> None:
         return
     numbers = "".join(f"{cell:>{len(title) + 2}}" for cell, title in zip(rest, HEAD[2:]))
     print(f"{name:<12}{rows:>9}{numbers}", flush=True)
+
+
+# Reads all records, as the script's LOAD block has them.
+CSV_READER = "import csv, sys\nfor record in csv.reader(sys.stdin): pass"
+
+
+def measure_load(program: Path, folder: Path) -> None:
+    """A LOAD block of short lines against Python's csv module over the same lines. mviewdb reads the block and answers that
+    it doesn't run yet."""
+    lines, script, output = (folder / name for name in ("lines.csv", "load.sql", "load.out"))
+    text = "".join(f"{row * 7919 % 100_003},G{row * 31 % 1000:03}\n" for row in range(LOAD_LINES))
+    lines.write_text(text, encoding="utf-8")
+    script.write_text(f"@setup\n@load SALES\n{text}@endload\n@end\n", encoding="utf-8")
+    mine = runs([str(program), "order"], script, output, wanted=5)
+    other = runs([sys.executable, "-c", CSV_READER], lines, output)
+    if mine[-1].status != 5 or mine[-1].errors != "mviewdb: line 2: NotBuilt":
+        print(f"load: mviewdb ended with status {mine[-1].status}: {mine[-1].errors}")
+        return
+    seconds, others = median_of(mine), median_of(other)
+    print(f"load of {LOAD_LINES:,} lines: mviewdb {seconds:.3f} s, Python's csv {others:.3f} s, ratio {seconds / others:.1f}")
 
 
 def built_program() -> Path:
@@ -206,6 +262,8 @@ def main() -> int:
     with tempfile.TemporaryDirectory() as folder, ProcessPoolExecutor(1) as worker:
         for case in cases:
             show(measure(case, program, sqlite, Path(folder), worker))
+        if given.case is None or "load" in given.case:
+            worker.submit(measure_load, program, Path(folder)).result()
         floor = run(["true"], Path(os.devnull), Path(os.devnull)).peak
     version = subprocess.run([sqlite, "--version"], stdout=subprocess.PIPE, text=True, check=True).stdout.split()[0]
     print(f"\nMedian of {RUNS} runs; SQLite {version}. Memory below {floor / MEGABYTE:.1f} MB isn't seen.")

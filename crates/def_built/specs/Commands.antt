@@ -1,4 +1,7 @@
--- Which commands the program runs so far: one table, rows inserted into it, and its groups with sums and counts.
+-- Which commands the program runs so far: those of a form that is built, and for a time the conditions here: one table, rows
+-- inserted into it, and its groups with sums and counts.
+use Rattle.def_built.specs.Forms.{block_form, is_built, statement_form}
+use Rattle.def_built.specs.declared.forms.Form.TheVariants as forms
 use Rattle.std.specs.List.{list_all}
 use Rattle.std.specs.Prelude.{◌&&◌, ◌∷◌, Bool, List, None, Option, Some, [], false, is_none, is_some, length, nat_le, pos, sum_by, true, ℕ, ℤ, negsuc}
 use Rattle.wh_base.specs.Lists.{is_empty, option_case, repeated, same_text}
@@ -24,7 +27,8 @@ use Rattle.wh_base.specs.declared.statements.Statement.{Statement}
 use Rattle.wh_base.specs.declared.statements.Statement.TheVariants as about
 use Rattle.wh_base.specs.declared.statements.TablePart.{TablePart}
 use Rattle.wh_base.specs.declared.statements.TablePart.TheVariants as parts
-use Rattle.wh_base.specs.declared.statements.TableStatement.TheVariants.{CreateTable}
+use Rattle.wh_base.specs.declared.statements.TableStatement.{TableStatement}
+use Rattle.wh_base.specs.declared.statements.TableStatement.TheVariants.{AlterTable, CreateTable}
 
 -- ---- CREATE TABLE: 1 to 16 columns of different names, NUMBER of 1 to 15 digits or VARCHAR2 of 1 to 64 bytes, and nothing else
 
@@ -121,14 +125,22 @@ abbrev pub rows_inserted : Command → ℕ
 rows_inserted (commands.Block b) = option_case (block_insert b.statements) 0 (λ s. length s.rows)
 rows_inserted (commands.Other s) = 0
 
+-- a statement on a table's definition that may follow the first command. For a time a script has one table
+abbrev pub table_may_follow : TableStatement → Bool
+table_may_follow (CreateTable t) = false
+table_may_follow (AlterTable a) = is_built forms.AlterTable
+
 -- what may follow the CREATE TABLE
 abbrev pub later_is_built : Command → Bool
-later_is_built (commands.Block b) = option_case (block_insert b.statements) false insert_is_built
-later_is_built (commands.Other (about.Select a)) = query_is_built a.query
-later_is_built (commands.Other s) = false
+later_is_built (commands.Block b) =
+    option_case (block_insert b.statements) (is_built (block_form b.statements)) (λ s. is_built forms.Insert && insert_is_built s)
+later_is_built (commands.Other (about.Select a)) = is_built forms.Select && query_is_built a.query
+later_is_built (commands.Other (about.Table s)) = table_may_follow s
+later_is_built (commands.Other (about.Change s)) = false
+later_is_built (commands.Other s) = is_built (statement_form s)
 
 abbrev pub first_is_built : Command → Bool
-first_is_built (commands.Other (about.Table (CreateTable t))) = table_is_built t
+first_is_built (commands.Other (about.Table (CreateTable t))) = is_built forms.CreateTable && table_is_built t
 first_is_built c = false
 
 -- the most rows that all INSERTs of a script have together

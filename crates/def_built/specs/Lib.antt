@@ -1,3 +1,3 @@
 pub mod Commands
-pub mod Statements
 pub mod Form
+pub mod Forms

@@ -1,3 +1,5 @@
-//! Definitions alone: which scripts the program runs so far. A script is read here by the same words as the whole
-//! grammar uses, and what is built of the language is a test on the commands that it has. It has no code.
+//! Which scripts the program runs so far: the table of the forms that are built, and the conditions that hold for a time. A
+//! script is read by the words of the whole grammar, and what is built of it is a test on what was read.
 #![tactic(auto)]
+
+pub mod forms;

@@ -13,7 +13,7 @@ use Rattle.wh_base.specs.declared.statements.BadScript.{BadScript}
 use Rattle.wh_base.specs.declared.statements.Command.{Command}
 use Rattle.wh_base.specs.declared.statements.Script.{Script}
 use Rattle.wh_base.specs.declared.statements.ScriptKind.{ScriptKind}
-use Rattle.wh_base.specs.declared.statements.ScriptKind.TheVariants.{AfterEnd, BadCharacter, LoadShape, Misplaced, NoEnd, NotUtf8, OpenBlock, OpenLoad, OpenQuote, OpenStatement, OrderTooLong, OrderUnknown, SessionNumber, Syntax, UnknownDirective}
+use Rattle.wh_base.specs.declared.statements.ScriptKind.TheVariants.{AfterEnd, BadCharacter, LoadShape, Misplaced, NoEnd, NotBuilt, NotUtf8, OpenBlock, OpenLoad, OpenQuote, OpenStatement, OrderTooLong, OrderUnknown, SessionNumber, Syntax, UnknownDirective}
 use Rattle.wh_base.specs.declared.statements.Section.{Section}
 use Rattle.wh_base.specs.declared.statements.Statement.{Statement}
 use Rattle.wh_base.specs.declared.statements.Statement.TheVariants.{Select}
@@ -208,10 +208,10 @@ take_closed d line ts = option_case d.block (take_command d line ts) (λ b. take
 abbrev pub statement_place : StatementTokens → ℕ
 statement_place p = option_case (first_some (head p.tokens ∷ p.closed ∷ [])) 0 (λ t. t.start)
 
--- a statement: Misplaced outside every section, whatever it is; one that isn't closed stays open until its section ends
-abbrev pub take_statement : List ℕ → Draft → StatementTokens → Drafted
-take_statement bytes d p =
-    let line = line_at bytes (statement_place p) in
+-- a statement on this line: Misplaced outside every section, whatever it is; one that isn't closed stays open until its
+-- section ends
+abbrev pub take_statement : Draft → ℕ → StatementTokens → Drafted
+take_statement d line p =
     cond (not (in_section d)) (Err (bad line Misplaced))
     (cond (is_none p.closed) (Ok (record d { open_at = Some line })) (take_closed d line p.tokens))
 
@@ -250,15 +250,22 @@ abbrev pub is_section_of : ℕ → Section → Bool
 is_section_of n s = (s.session == n) && not (n == 0)
 
 -- how many parts a session has
-abbrev pub parts_in : Draft → ℕ → ℕ
-parts_in d n = option_case (find (is_section_of n) (sections_of d)) 0 (λ s. length (section_entries s))
+abbrev pub parts_in : List Section → ℕ → ℕ
+parts_in sections n = option_case (find (is_section_of n) sections) 0 (λ s. length (section_entries s))
+
+abbrev pub is_unknown : List Section → ℕ → Bool
+is_unknown sections n = not (list_any (is_section_of n) sections)
+
+-- the order names the session more often than it has parts
+abbrev pub is_too_long : List Section → List ℕ → ℕ → Bool
+is_too_long sections ns n = nat_lt (parts_in sections n) (count_by (λ m. m == n) ns)
 
 -- OrderUnknown for a session that isn't there, then OrderTooLong for one that is named more often than it has parts
-abbrev pub order_fault : Draft → ℕ → List ℕ → Option BadScript
-order_fault d line ns =
+abbrev pub order_fault : List Section → ℕ → List ℕ → Option BadScript
+order_fault sections line ns =
     first_some (
-    where_true (list_any (λ n. not (list_any (is_section_of n) (sections_of d))) ns) (bad line OrderUnknown)
-    ∷ where_true (list_any (λ n. nat_lt (parts_in d n) (count_by (λ m. m == n) ns)) ns) (bad line OrderTooLong)
+    where_true (list_any (is_unknown sections) ns) (bad line OrderUnknown)
+    ∷ where_true (list_any (is_too_long sections ns) ns) (bad line OrderTooLong)
     ∷ [])
 
 -- after `@order` no section goes on
@@ -269,7 +276,7 @@ with_order d ns = record { before = sections_of d; now = None; block = None; ope
 abbrev pub order_by : Draft → ℕ → List (Option ℕ) → Drafted
 order_by d line ws =
     cond (list_any is_none ws) (Err (bad line SessionNumber))
-    (let ns = flat_map option_to_list ws in unless (order_fault d line ns) (with_order d ns))
+    (let ns = flat_map option_to_list ws in unless (order_fault (sections_of d) line ns) (with_order d ns))
 
 -- a directive: Misplaced where it may not stand, UnknownDirective where it isn't in the grammar. Both go before what is open
 -- there, and that before the faults of its words. `@setup` stands first, `@session` before `@order`, `@order` once
@@ -288,14 +295,14 @@ take_directive d line Unknown = Err (bad line UnknownDirective)
 abbrev pub may_load : Draft → Bool
 may_load d = in_section d && (is_none d.block && is_none d.open_at)
 
--- a LOAD block: Misplaced, then OpenLoad, then LoadShape
-abbrev pub take_load : Draft → Line → List ℕ → List Line → Bool → Drafted
-take_load d l n ls closed =
-    let rows = records (block_bytes ls) in
+-- a LOAD block of these bytes, whose `@load` is on this line: Misplaced, then OpenLoad, then LoadShape
+abbrev pub take_load : Draft → ℕ → List ℕ → List ℕ → Bool → Drafted
+take_load d line n block closed =
+    let rows = records block in
     unless (first_some (
-    where_true (not (may_load d)) (bad l.number Misplaced)
-    ∷ where_true (not closed) (bad l.number OpenLoad)
-    ∷ where_true (is_uneven rows) (bad l.number LoadShape)
+    where_true (not (may_load d)) (bad line Misplaced)
+    ∷ where_true (not closed) (bad line OpenLoad)
+    ∷ where_true (is_uneven rows) (bad line LoadShape)
     ∷ []))
     (with_command d (commands.Block (record { statements = about.Change (Load (record { table = n; rows = rows })) ∷ [] })))
 
@@ -310,37 +317,55 @@ first_black place [] = None
 first_black place (b ∷ []) = where_true (not (is_white b)) place
 first_black place (b ∷ c ∷ bs) = cond (is_white b || ((b == 13) && (c == 10))) (first_black (suc place) (c ∷ bs)) (Some place)
 
--- the fault of what follows the end: AfterEnd for the first byte that isn't white space, or NotUtf8 where it is no UTF-8
-abbrev pub after_fault : List ℕ → Line → List Line → Option BadScript
-after_fault bytes l ls =
+-- the fault of the bytes behind the end, which stand at this place: AfterEnd for the first that isn't white space, or NotUtf8
+-- where it is no UTF-8
+abbrev pub after_fault : List ℕ → ℕ → List ℕ → Option BadScript
+after_fault bytes place behind =
     let valid = utf8_valid_len bytes in
-    option_map (λ p. cond (nat_lt p valid) (bad (line_at bytes p) AfterEnd) (bad (line_at bytes valid) NotUtf8)) (first_black (l.place + length l.raw) (block_bytes ls))
+    option_map (λ p. cond (nat_lt p valid) (bad (line_at bytes p) AfterEnd) (bad (line_at bytes valid) NotUtf8)) (first_black place behind)
 
 -- the script that was read, and the place behind the line of its end
-abbrev pub finish : Draft → Line → Script × ℕ
-finish d l = (record { sections = sections_of d; order = unwrap_or d.order [] }, l.place + length l.raw)
+abbrev pub finish : Draft → ℕ → Script × ℕ
+finish d place = (record { sections = sections_of d; order = unwrap_or d.order [] }, place)
 
 -- a script and the place behind its end, or the fault
 abbrev pub Outcome : Type 0
 Outcome = Result (Script × ℕ) BadScript
 
--- the end: what is open there is the fault, then what follows; with a tail any bytes may follow
-abbrev pub ending : List ℕ → Bool → Draft → Line → List Line → Outcome
-ending bytes tail d l ls = unless (first_some (open_fault d ∷ cond tail None (after_fault bytes l ls) ∷ [])) (finish d l)
+-- the end, behind whose line these bytes stand at this place: what is open there is the fault, then what follows; with a tail
+-- any bytes may follow
+abbrev pub ending : List ℕ → Bool → Draft → ℕ → List ℕ → Outcome
+ending bytes tail d place behind =
+    unless (first_some (open_fault d ∷ cond tail None (after_fault bytes place behind) ∷ [])) (finish d place)
 
 -- no `@end`: what is open is the fault, else NoEnd on the last line that has a byte, and on line 1 for no bytes
 abbrev pub no_end : List ℕ → Draft → Outcome
 no_end bytes d = Err (unwrap_or (open_fault d) (bad (max 1 (length (lines_of bytes))) NoEnd))
 
--- the elements one after another
-abbrev pub read_from : List ℕ → Bool → Draft → List Element → Outcome
-read_from bytes tail d [] = no_end bytes d
-read_from bytes tail d (Unreadable kind place ∷ rest) = Err (bad (line_at bytes place) kind)
-read_from bytes tail d (Ended l ls ∷ rest) = ending bytes tail d l ls
-read_from bytes tail d (Stated p ∷ rest) = take_statement bytes d p >>= (λ e. read_from bytes tail e rest)
-read_from bytes tail d (Directed l t ∷ rest) = take_directive d l.number t >>= (λ e. read_from bytes tail e rest)
-read_from bytes tail d (Loaded l n ls closed ∷ rest) = take_load d l n ls closed >>= (λ e. read_from bytes tail e rest)
+-- ---- the whole
 
--- the script that the bytes are, with the place behind its end, or their first fault. With a tail any bytes may follow the end
-abbrev pub script_of : List ℕ → Bool → Result (Script × ℕ) BadScript
-script_of bytes tail = read_from bytes tail first_draft (elements_of bytes)
+-- what was taken on this line, where all that was read is built. NotBuilt stands behind every other fault of its place
+abbrev pub where_built : (Draft → Bool) → ℕ → Drafted → Drafted
+where_built is_built line drafted = drafted >>= (λ d. cond (is_built d) (Ok d) (Err (bad line NotBuilt)))
+
+-- the elements one after another, where a draft has to be built
+abbrev pub read_from : (Draft → Bool) → List ℕ → Bool → Draft → List Element → Outcome
+read_from is_built bytes tail d [] = no_end bytes d
+read_from is_built bytes tail d (Unreadable kind place ∷ rest) = Err (bad (line_at bytes place) kind)
+read_from is_built bytes tail d (Ended l ls ∷ rest) = ending bytes tail d (l.place + length l.raw) (block_bytes ls)
+read_from is_built bytes tail d (Stated p ∷ rest) =
+    let line = line_at bytes (statement_place p) in
+    where_built is_built line (take_statement d line p) >>= (λ e. read_from is_built bytes tail e rest)
+read_from is_built bytes tail d (Directed l t ∷ rest) =
+    where_built is_built l.number (take_directive d l.number t) >>= (λ e. read_from is_built bytes tail e rest)
+read_from is_built bytes tail d (Loaded l n ls closed ∷ rest) =
+    where_built is_built l.number (take_load d l.number n (block_bytes ls) closed) >>= (λ e. read_from is_built bytes tail e rest)
+
+-- the script that the bytes are, with the place behind its end, or their first fault, where each draft has to be built. With a
+-- tail any bytes may follow the end
+abbrev pub script_where : (Draft → Bool) → List ℕ → Bool → Outcome
+script_where is_built bytes tail = read_from is_built bytes tail first_draft (elements_of bytes)
+
+-- the same by the whole grammar
+abbrev pub script_of : List ℕ → Bool → Outcome
+script_of = script_where (λ d. true)

@@ -19,6 +19,7 @@ pub mod FastRefreshOneTable
 pub mod FastRefreshStar
 pub mod FirstRefusals
 pub mod ForeignKeys
+pub mod FormsNotBuilt
 pub mod FourSessions
 pub mod Generated
 pub mod GroupByOneTable

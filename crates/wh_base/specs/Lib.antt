@@ -6,3 +6,5 @@ pub mod Columns
 pub mod Tables
 pub mod Parts
 pub mod ValueLaws
+pub mod Words
+pub mod Bytes

@@ -20,3 +20,4 @@ mod tests;
 pub mod txt;
 pub mod values;
 pub mod views;
+pub mod wide;

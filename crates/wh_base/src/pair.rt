@@ -1,12 +1,13 @@
 ghost use Rattle.std.specs.Prelude.{◌≡◌, ◌≤◌, ◌↔◌, IsTrue, pred, suc};
 
+use crate::wide::Wide;
 use std::marker::Model;
 
 /// What AVG gives: a sum and the count of its values, which is at least 1. Contracts see the sum and how many values
 /// there are beside the first.
 #[derive(Clone, Copy, Debug, PartialEq, Eq, Hash)]
 pub struct Pair {
-    sum: i128,
+    sum: Wide,
     count: u64,
 }
 
@@ -31,14 +32,17 @@ impl Pair {
         requires { 1 ≤ count }
         ensures { result ≡ record { sum = sum; more = pred count } }
     {
-        Pair { sum, count }
+        Pair {
+            sum: Wide::new(sum),
+            count,
+        }
     }
 
     /// The sum of the values.
     pub fn sum(&self) -> i128
         ensures { result ≡ self.now.sum }
     {
-        self.sum
+        self.sum.get()
     }
 
     /// How many values there are, at least 1.
@@ -52,6 +56,6 @@ impl Pair {
     pub fn is(&self, other: &Pair) -> bool
         ensures { IsTrue result ↔ (self.now ≡ other.now) }
     {
-        self.sum == other.sum && self.count == other.count
+        self.sum() == other.sum() && self.count == other.count
     }
 }

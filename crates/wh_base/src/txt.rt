@@ -1,10 +1,11 @@
-ghost use Rattle.std.specs.Prelude.{◌≡◌, ◌↔◌, ◌<◌, ◌^◌, IsTrue, IfOk, IsOk, Some, length, nat_eq, refl, vec_len, []};
+ghost use Rattle.std.specs.Prelude.{◌≡◌, ◌↔◌, ◌<◌, ◌≤◌, ◌^◌, IsTrue, IfOk, IsOk, Some, length, nat_eq, refl, vec_len, []};
 ghost use Rattle.std.specs.Cmp;
 ghost use Rattle.std.specs.Cmp.Rules.{hashing};
 ghost use Rattle.std.specs.Cmp.Lexicographic.{pointwise, slice_cmp, nat_list_eq_equiv, nat_list_cmp_total, texts_ties, texts_po};
 ghost use Rattle.std.specs.Hash as fed;
 ghost use Rattle.std.specs.Ordering.{nat_cmp};
 ghost use Rattle.std.proofs.Common.{rules};
+ghost use Rattle.wh_base.specs.Lists.{same_text};
 
 use std::alloc::{AllocError, Global};
 use std::cmp::Ordering;
@@ -14,29 +15,51 @@ use std::marker::Model;
 /// How many bytes a text holds at the most: a place in it fits a `u32`.
 const MOST: usize = 0xffff_ffff;
 
-/// A text of fewer than 2^32 bytes, which contracts see as the list of its bytes.
+/// How many bytes a short text has at the most.
+const SHORT: usize = 14;
+
+/// Where the bytes of a text are: the first so many of an array, or in a block of their own.
+#[derive(Debug, Drop)]
+enum Bytes {
+    Short(u8, [u8; SHORT]),
+    Long(Box<Vec<u8>>),
+}
+
+/// A text of fewer than 2^32 bytes, which contracts see as the list of its bytes. A text of at most 14 bytes takes no
+/// memory but its own 16 bytes.
 #[derive(Debug, Drop)]
 pub struct Txt {
-    bytes: Vec<u8>,
+    bytes: Bytes,
 }
 
 impl Model for Txt {
-    ghost use Rattle.std.specs.Prelude.{List, ℕ, ◌<◌, ◌^◌, vec_len};
+    ghost use Rattle.std.specs.Prelude.{List, ℕ};
+    ghost use Rattle.wh_base.specs.Bytes.{bytes_in, IsWithinBounds};
 
     ghost Value = { List ℕ };
 
-    ghost view = { λ t. t.bytes.items };
+    ghost view = { λ t. bytes_in t.bytes };
 
-    ghost invariant = { λ t. vec_len t.bytes < 2 ^ 32 };
+    ghost invariant = { λ t. IsWithinBounds t.bytes };
 }
 
 impl Txt {
     /// No bytes. Takes no memory.
-    pub fn new(alloc: Global) -> Txt
+    pub fn new(_alloc: Global) -> Txt
         ensures { result ≡ [] }
     {
+        Txt::short(&[])
+    }
+
+    /// These bytes, without a block of their own.
+    fn short(bytes: &[u8]) -> Txt
+        requires { length bytes.now ≤ SHORT }
+        ensures { result ≡ bytes.now }
+    {
+        let mut kept = [0; SHORT];
+        kept[..bytes.len()].copy_from_slice(bytes);
         Txt {
-            bytes: Vec::new(alloc),
+            bytes: Bytes::Short(bytes.len() as u8, kept),
         }
     }
 
@@ -44,32 +67,27 @@ impl Txt {
     pub fn from_slice(alloc: Global, bytes: &[u8]) -> Result<Txt, AllocError>
         ensures { IfOk result (λ t. t ≡ bytes.now) }
     {
-        if bytes.len() > MOST {
-            return Err(AllocError);
+        if bytes.len() <= SHORT {
+            return Ok(Txt::short(bytes));
         }
-        Ok(Txt {
-            bytes: Vec::from_slice(alloc, bytes)?,
-        })
+        Txt::from_vec(Vec::from_slice(alloc, bytes)?)
     }
 
-    /// The bytes of a `Vec`. Takes no memory; an error, which says that there are 2^32 bytes or more, drops them.
+    /// The bytes of a `Vec`. An error, which says that memory ran out or that there are 2^32 bytes or more, drops them.
     pub fn from_vec(bytes: Vec<u8>) -> Result<Txt, AllocError>
         ensures ok { IfOk result (λ t. t ≡ bytes.items) }
-        ensures fits { IsOk result ↔ (vec_len bytes < 2 ^ 32) }
+        ensures few { IsOk result → vec_len bytes < 2 ^ 32 }
     {
+        if bytes.len() <= SHORT {
+            return Ok(Txt::short(bytes.as_slice()));
+        }
         if bytes.len() > MOST {
             return Err(AllocError);
         }
-        Ok(Txt { bytes })
-    }
-
-    /// The bytes as a `Vec`. Takes no memory.
-    pub fn into_vec(self) -> Vec<u8>
-        ensures bytes { result.items ≡ self }
-        ensures few { vec_len result < 2 ^ 32 }
-    {
-        let Txt { bytes } = self;
-        bytes
+        let alloc = *bytes.allocator();
+        Ok(Txt {
+            bytes: Bytes::Long(Box::new(alloc, bytes)?),
+        })
     }
 
     /// The bytes as a slice.
@@ -77,7 +95,10 @@ impl Txt {
         ensures bytes { result.now ≡ self.now }
         ensures few { length result.now < 2 ^ 32 }
     {
-        self.bytes.as_slice()
+        match &self.bytes {
+            Bytes::Short(len, bytes) => &bytes[..usize::from(*len)],
+            Bytes::Long(bytes) => bytes.as_slice(),
+        }
     }
 
     /// How many bytes there are.
@@ -85,28 +106,35 @@ impl Txt {
         ensures count { result ≡ length self.now }
         ensures few { result < 2 ^ 32 }
     {
-        self.bytes.len()
+        self.as_slice().len()
     }
 
     /// Whether there are no bytes.
     pub fn is_empty(&self) -> bool
         ensures { IsTrue result ↔ (self.now ≡ []) }
     {
-        self.bytes.is_empty()
+        self.as_slice().is_empty()
     }
 
     /// The same text.
     pub fn copy(&self, alloc: Global) -> Result<Txt, AllocError>
         ensures { IfOk result (λ t. t ≡ self.now) }
     {
-        Txt::from_slice(alloc, self.bytes.as_slice())
+        Txt::from_slice(alloc, self.as_slice())
     }
 
     /// Whether the text is these bytes.
     pub fn is(&self, other: &[u8]) -> bool
         ensures { IsTrue result ↔ (self.now ≡ other.now) }
     {
-        self.bytes.as_slice() == other
+        self.as_slice() == other
+    }
+
+    /// Whether the two are the same text.
+    pub fn same_as(&self, other: &Txt) -> bool
+        ensures { result ≡ same_text self.now other.now }
+    {
+        self.as_slice() == other.as_slice()
     }
 }
 
@@ -116,7 +144,7 @@ impl PartialEq for Txt {
     ghost laws = { Cmp.partial_equiv_from_equiv nat_list_eq_equiv };
 
     fn eq(&self, other: &Txt) -> bool {
-        self.bytes == other.bytes
+        self.as_slice() == other.as_slice()
     }
 }
 
@@ -144,7 +172,7 @@ impl Ord for Txt {
     ghost matches_eq = { texts_ties };
 
     fn cmp(&self, other: &Txt) -> Ordering {
-        self.bytes.cmp(&other.bytes)
+        self.as_slice().cmp(other.as_slice())
     }
 }
 
@@ -154,6 +182,6 @@ impl Hash for Txt {
     ghost respects_eq = { Prim.search (hashing, rules) };
 
     fn hash<H: Hasher>(&self, state: &mut H) {
-        self.bytes.hash(state);
+        self.as_slice().hash(state);
     }
 }

@@ -10,6 +10,7 @@ use crate::fraction::compare_pairs;
 use crate::pair::Pair;
 use crate::seq::Seq;
 use crate::txt::Txt;
+use crate::wide::Wide;
 use std::alloc::{AllocError, Global};
 use std::cmp::Ordering;
 use std::hash::{Hash, Hasher};
@@ -26,7 +27,7 @@ pub enum Value {
 /// A literal of a statement, as it is written. A quoted text of no bytes stands for NULL, as in Oracle's SQL.
 #[derive(Debug, Drop)]
 pub enum Literal {
-    Number(i128),
+    Number(Wide),
     Quoted(Txt),
 }
 

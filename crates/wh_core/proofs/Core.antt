@@ -6,6 +6,7 @@ use Rattle.std.proofs.lemmas.Bool.Decides.{nat_tests}
 use Rattle.std.proofs.lemmas.List.Sums.{fold_push, sum_by-cons}
 use Rattle.std.proofs.Math.Nat.{pow-le-pow_right}
 use Rattle.std.specs.List.{list_all}
+use Rattle.def_built.specs.Forms.{block_form, is_built}
 use Rattle.def_built.specs.Commands.{block_insert, commands_are_built, first_is_built, insert_is_built, later_is_built, most_rows, query_is_built, rows_inserted, table_is_built}
 use Rattle.def_effect.specs.Block.{column_refusal, fits_kind, given_row_refusal}
 use Rattle.def_effect.specs.Define.{table_def}
@@ -19,6 +20,7 @@ use Rattle.wh_base.specs.declared.replies.Refusal.TheVariants.{NoSuchObject, Nul
 use Rattle.wh_base.specs.declared.replies.Reply.TheVariants as reply
 use Rattle.wh_base.specs.declared.statements.Asked.{Asked}
 use Rattle.wh_base.specs.declared.statements.Block.{Block}
+use Rattle.wh_base.specs.declared.statements.ChangeStatement.TheVariants.{Delete, Insert, Load, Update}
 use Rattle.wh_base.specs.declared.statements.Command.{Command}
 use Rattle.wh_base.specs.declared.statements.Command.TheVariants as commands
 use Rattle.wh_base.specs.declared.statements.Event.{Event}
@@ -281,12 +283,41 @@ statement_runs (about.Session s) h = cc
 pub next_runs : (trace : List Event) (s : Statement) → IsTrue (commands_are_built (commands_of trace ++ commands.Other s ∷ [])) → IsTrue (is_run s)
 next_runs trace s h = let runs : is_run s ≡ true = statement_runs s (either_built trace (commands.Other s) h) in search (rules, runs)
 
+-- no block but an INSERT by itself is built
+only_insert : (ss : List Statement) → option_case (block_insert ss) (is_built (block_form ss)) insert_is_built ≡ true → is_some (block_insert ss) ≡ true
+only_insert [] h = cc
+only_insert (about.Change (Insert s) ∷ []) h = refl
+only_insert (about.Change (Update s) ∷ []) h = cc
+only_insert (about.Change (Delete s) ∷ []) h = cc
+only_insert (about.Change (Load s) ∷ []) h = cc
+only_insert (about.Select s ∷ []) h = cc
+only_insert (about.Table s ∷ []) h = cc
+only_insert (about.Log s ∷ []) h = cc
+only_insert (about.View s ∷ []) h = cc
+only_insert (about.Dimension s ∷ []) h = cc
+only_insert (about.Refresh s ∷ []) h = cc
+only_insert (about.Purge s ∷ []) h = cc
+only_insert (about.Show s ∷ []) h = cc
+only_insert (about.ExplainQuery s ∷ []) h = cc
+only_insert (about.Session s ∷ []) h = cc
+only_insert (about.Change (Insert s) ∷ t ∷ ss) h = cc
+only_insert (about.Change (Update s) ∷ t ∷ ss) h = cc
+only_insert (about.Change (Delete s) ∷ t ∷ ss) h = cc
+only_insert (about.Change (Load s) ∷ t ∷ ss) h = cc
+only_insert (about.Select s ∷ t ∷ ss) h = cc
+only_insert (about.Table s ∷ t ∷ ss) h = cc
+only_insert (about.Log s ∷ t ∷ ss) h = cc
+only_insert (about.View s ∷ t ∷ ss) h = cc
+only_insert (about.Dimension s ∷ t ∷ ss) h = cc
+only_insert (about.Refresh s ∷ t ∷ ss) h = cc
+only_insert (about.Purge s ∷ t ∷ ss) h = cc
+only_insert (about.Show s ∷ t ∷ ss) h = cc
+only_insert (about.ExplainQuery s ∷ t ∷ ss) h = cc
+only_insert (about.Session s ∷ t ∷ ss) h = cc
+
 pub next_inserts : (trace : List Event) (b : Block) → IsTrue (commands_are_built (commands_of trace ++ commands.Block b ∷ [])) → IsTrue (is_some (block_insert b.statements))
-next_inserts trace b h = let there : is_some (block_insert b.statements) ≡ true = by (block_insert b.statements) (either_built trace (commands.Block b) h) in search (rules, there)
-  where
-    by : (o : Option InsertRows) → option_case o false insert_is_built ≡ true → is_some o ≡ true
-    by None e = cc
-    by (Some s) e = refl
+next_inserts trace b h =
+    let there : is_some (block_insert b.statements) ≡ true = only_insert b.statements (either_built trace (commands.Block b) h) in search (rules, there)
 
 pub ruleset next = (next_create, next_insert, next_select, next_runs, next_inserts)
 

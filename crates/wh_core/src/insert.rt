@@ -21,7 +21,7 @@ fn given_value(alloc: Global, literal: &Option<Literal>) -> Result<Value, AllocE
 {
     match literal {
         None => Ok(Value::Null),
-        Some(Literal::Number(n)) => Ok(Value::Num(*n)),
+        Some(Literal::Number(number)) => Ok(Value::Num(number.get())),
         Some(Literal::Quoted(text)) => {
             if text.is_empty() {
                 Ok(Value::Null)
@@ -121,7 +121,7 @@ fn fits(kind: Kind, literal: &Option<Literal>) -> bool
 {
     match (kind, literal) {
         (_, None) => true,
-        (Kind::Number(digits), Some(Literal::Number(number))) => number_fits(*number, digits),
+        (Kind::Number(digits), Some(Literal::Number(number))) => number_fits(number.get(), digits),
         (Kind::Text(bytes), Some(Literal::Quoted(text))) => text_fits(text, bytes),
         (Kind::Number(_), Some(Literal::Quoted(text))) => text.is_empty(),
         (Kind::Text(_), Some(Literal::Number(_))) => false,

@@ -1,6 +1,6 @@
 ghost use Rattle.std.specs.Prelude.{◌≡◌, ◌≤◌, ◌<◌, ◌+◌, ◌^◌, ◌++◌, IfOk, OnOk, IsTrue, [], ◌∷◌, length, map, None, Some, Ok, Err, drop, is_none, is_some, slice_get};
 ghost use Rattle.std.specs.List.{list_all};
-ghost use Rattle.wh_base.specs.Lists.{first_of, same_text, unless};
+ghost use Rattle.wh_base.specs.Lists.{first_of, unless};
 ghost use Rattle.wh_eval.specs.Form.{groups_one_table};
 ghost use Rattle.wh_base.specs.Tables.{column_number};
 ghost use Rattle.def_built.specs.Commands.{query_is_built, plain_name};
@@ -19,19 +19,13 @@ use wh_base::seq::Seq;
 use wh_base::tables::{Kind, TableDef};
 use wh_base::txt::Txt;
 
-fn same_text(a: &Txt, b: &Txt) -> bool
-    ensures { result ≡ same_text a.now b.now }
-{
-    a.as_slice() == b.as_slice()
-}
-
 /// The place of the column of this name, counted from 0.
 #[tactic(auto, using(crate::proofs::Resolving::places))]
 fn column_number(def: &TableDef, name: &Txt) -> Option<u32>
     ensures { result ≡ column_number def.now name.now }
 {
     for at in 0..def.columns.len() {
-        if same_text(&def.columns.as_slice()[at].name, name) {
+        if def.columns.as_slice()[at].name.same_as(name) {
             return Some(at as u32);
         }
     }
@@ -235,7 +229,7 @@ fn star_of(
     requires group { IsTrue (is_some (plain_name group.now)) }
     ensures { IfOk result (λ r. r ≡ unless (star_refusal table.now def.now items.now group.now) (one_star table.now def.now items.now group.now)) }
 {
-    if !same_text(&def.name, table) {
+    if !def.name.same_as(table) {
         return Ok(Err(Refusal::NoSuchObject(table.copy(alloc)?)));
     }
     if let Some(refusal) = items_unknown(alloc, table, def, items)? {

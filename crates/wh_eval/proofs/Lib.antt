@@ -1,3 +1,4 @@
+pub mod Placed
 pub mod Small
 pub mod Keys
 pub mod Kept

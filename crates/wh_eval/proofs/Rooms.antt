@@ -70,18 +70,18 @@ total_within (v ∷ vs) h =
 
 -- ---- rows
 
-tally_room : (rows : Listed) (i : Item) → AreSmallRows rows → length rows < 2 ^ 32 → HasRoom (tally_over rows i)
-tally_room rows (item.Agg CountAll) small few = few
+tally_room : (rows : Listed) (i : Item) → AreSmallRows rows → length rows + 1 < 2 ^ 32 → HasRoom (tally_over rows i)
+tally_room rows (item.Agg CountAll) small few = omega arith
 tally_room rows (item.Agg (Sum (expr.Col c))) small few =
     let column = map (λ row. value_at row (place_in_row c.part)) rows in
     (omega (arith, fewer not_null column, length-map {A = List Value} {B = Value} rows (λ row. value_at row (place_in_row c.part))), total_within (filter not_null column) (all_filter is_small not_null column (small_column rows (place_in_row c.part) small)))
 tally_room rows i small few = tt
 
-tallies_room : (rows : Listed) (items : List Item) → AreSmallRows rows → length rows < 2 ^ 32 → All HasRoom (map (tally_over rows) items)
+tallies_room : (rows : Listed) (items : List Item) → AreSmallRows rows → length rows + 1 < 2 ^ 32 → All HasRoom (map (tally_over rows) items)
 tallies_room rows [] small few = All-nil HasRoom
 tallies_room rows (i ∷ is) small few = All-cons HasRoom (tally_over rows i) (map (tally_over rows) is) (tally_room rows i small few) (tallies_room rows is small few)
 
-pub groups_room : (column : ℕ) (items : List Item) (rows : Listed) → AreSmallRows rows → length rows < 2 ^ 32 → HaveRoom (groups_over column items rows)
+pub groups_room : (column : ℕ) (items : List Item) (rows : Listed) → AreSmallRows rows → length rows + 1 < 2 ^ 32 → HaveRoom (groups_over column items rows)
 groups_room column items rows small few = each (distinct same_value (map (λ row. value_at row column) rows))
   where
     each : (ks : List Value) → HaveRoom (map (λ key. (key, map (tally_over (rows_of_key column rows key)) items)) ks)
@@ -92,7 +92,7 @@ groups_room column items rows small few = each (distinct same_value (map (λ row
         (each ks)
 
 -- while the rows are read
-pub reading_room : (column : ℕ) (items : List Item) (place : ℕ) (rows : Listed) → AreSmallRows rows → length rows < 2 ^ 32 → HaveRoom (groups_over column items (take place rows))
+pub reading_room : (column : ℕ) (items : List Item) (place : ℕ) (rows : Listed) → AreSmallRows rows → place + 1 < 2 ^ 32 → HaveRoom (groups_over column items (take place rows))
 reading_room column items place rows small few = groups_room column items (take place rows) (small_take place rows small) (omega (arith, length-take place rows))
 
 pub begun_room : (items : List Item) → All HasRoom (map begun items)

@@ -1,3 +1,4 @@
 pub mod Listed
 pub mod Form
 pub mod Tallies
+pub mod Blocks

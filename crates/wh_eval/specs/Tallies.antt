@@ -45,7 +45,7 @@ tally_value key (tally.Sum s) = sum_by_count s.count s.sum
 abbrev pub HasRoom : Tally → Type 0
 HasRoom tally.Key = Unit {0}
 HasRoom (tally.Count n) = n < 2 ^ 32
-HasRoom (tally.Sum s) = (s.count < 2 ^ 32) × (nat_abs s.sum ≤ s.count * 10 ^ 15)
+HasRoom (tally.Sum s) = (s.count + 1 < 2 ^ 32) × (nat_abs s.sum ≤ s.count * 10 ^ 15)
 
 -- ---- groups
 

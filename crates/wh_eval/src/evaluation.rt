@@ -18,7 +18,7 @@ use wh_base::values::{Rows, Value};
 fn rows_of_groups(alloc: Global, groups: Groups) -> Result<Vec<Seq<Value>>, AllocError>
     ensures { IfOk result (λ rows. rows.items ≡ map row_of_group groups.entries) }
 {
-    let mut rows = Vec::new(alloc);
+    let mut rows = Vec::with_capacity(alloc, groups.len())?;
     for (key, tallies) in groups {
         rows.push(tallies.row(alloc, &key)?)?;
     }

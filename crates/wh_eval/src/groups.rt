@@ -30,7 +30,7 @@ fn key_place(query: &StarQuery) -> u32
 }
 
 /// The value in a column, and `null` past the end of the row.
-fn value_in<'a>(row: &'a Seq<Value>, column: u32, null: &'a Value) -> &'a Value
+fn value_in<'a>(row: &'a [Value], column: u32, null: &'a Value) -> &'a Value
     requires { null.now ≡ Value.Null }
     ensures { result.now ≡ value_at row.now column }
 {
@@ -47,7 +47,7 @@ fn add_row(
     groups: &mut Groups,
     first: &Tallies,
     key: &Value,
-    row: &Seq<Value>,
+    row: &[Value],
 ) -> Result<(), AllocError>
     requires room { HaveRoom groups.old.entries }
     requires first_room { All HasRoom first.now }

@@ -1,6 +1,7 @@
 //! The evaluation of queries over lists of rows.
 #![tactic(auto)]
 
+mod blocks;
 mod evaluation;
 mod form;
 mod groups;

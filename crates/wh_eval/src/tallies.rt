@@ -1,4 +1,4 @@
-ghost use Rattle.std.specs.Prelude.{◌≡◌, ◌*◌, ◌<◌, ◌≤◌, ◌^◌, map, nat_abs, IfOk, IsTrue};
+ghost use Rattle.std.specs.Prelude.{◌≡◌, ◌+◌, ◌*◌, ◌<◌, ◌≤◌, ◌^◌, map, nat_abs, IfOk, IsTrue};
 ghost use Rattle.std.specs.List.{All};
 ghost use Rattle.wh_base.specs.Tables.{value_at};
 ghost use Rattle.wh_base.specs.Values.{is_small};
@@ -12,13 +12,14 @@ use wh_base::columns::{Agg, Expr};
 use wh_base::queries::Item;
 use wh_base::seq::Seq;
 use wh_base::values::Value;
+use wh_base::wide::Wide;
 
 /// The sum of a column over the rows of a group, and how many values it is over: those that aren't NULL.
 #[derive(Clone, Copy, Debug)]
 pub struct ColumnSum {
     pub column: u32,
-    pub count: u64,
-    pub sum: i128,
+    pub count: u32,
+    pub sum: Wide,
 }
 
 /// What is kept of a group for one item: nothing for the group column, the rows for COUNT(*), and a column's sum for SUM.
@@ -51,7 +52,7 @@ impl Model for Tallies {
 impl ColumnSum {
     /// One more value of the column. NULL adds nothing.
     fn with(self, value: &Value) -> ColumnSum
-        requires count { self.count < 2 ^ 32 }
+        requires count { self.count + 1 < 2 ^ 32 }
         requires sum { nat_abs self.sum ≤ self.count * 10 ^ 15 }
         requires small { IsTrue (is_small value.now) }
         ensures { result ≡ sum_with self value.now }
@@ -61,7 +62,7 @@ impl ColumnSum {
             Value::Num(number) => ColumnSum {
                 column: self.column,
                 count: self.count + 1,
-                sum: self.sum + *number,
+                sum: Wide::new(self.sum.get() + *number),
             },
             _ => ColumnSum {
                 column: self.column,
@@ -82,7 +83,7 @@ impl Tally {
             Item::Agg(Agg::Sum(Expr::Col(column))) => Tally::Sum(ColumnSum {
                 column: place_in_row(column.part),
                 count: 0,
-                sum: 0,
+                sum: Wide::new(0),
             }),
             _ => Tally::Key,
         }
@@ -90,7 +91,7 @@ impl Tally {
 
     /// One more row of the group.
     #[tactic(auto, using(crate::proofs::Small::small_rows))]
-    fn with(self, row: &Seq<Value>) -> Tally
+    fn with(self, row: &[Value]) -> Tally
         requires room { HasRoom self }
         requires small { IsSmallRow row.now }
         ensures { result ≡ tally_with row.now self }
@@ -100,7 +101,7 @@ impl Tally {
             Tally::Count(rows) => Tally::Count(rows + 1),
             Tally::Sum(sum) => match row.get(sum.column as usize) {
                 Some(value) => Tally::Sum(sum.with(value)),
-                None => self,
+                None => Tally::Sum(sum),
             },
         }
     }
@@ -113,7 +114,7 @@ impl Tally {
             Tally::Key => key.copy(alloc),
             Tally::Count(rows) => Ok(Value::Num(i128::from(rows))),
             Tally::Sum(ColumnSum { count: 0, .. }) => Ok(Value::Null),
-            Tally::Sum(ColumnSum { sum, .. }) => Ok(Value::Num(sum)),
+            Tally::Sum(ColumnSum { sum, .. }) => Ok(Value::Num(sum.get())),
         }
     }
 }
@@ -142,7 +143,7 @@ impl Tallies {
     }
 
     /// One more row of the group.
-    pub fn add(&mut self, row: &Seq<Value>)
+    pub fn add(&mut self, row: &[Value])
         requires room { All HasRoom self.old }
         requires small { IsSmallRow row.now }
         ensures { self.new ≡ map (tally_with row.now) self.old }

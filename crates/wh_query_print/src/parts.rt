@@ -24,7 +24,7 @@ impl ToTokens for Literal {
 
     fn to_tokens<'a>(&'a self, out: &mut Pieces<'a>) -> Result<(), AllocError> {
         match self {
-            Literal::Number(number) => push_signed(out, *number),
+            Literal::Number(number) => push_signed(out, number.get()),
             Literal::Quoted(text) => out.push(TokenKind::Text, text.as_slice()),
         }
     }

@@ -9,6 +9,7 @@ use crate::rule::{Bracketed, Either, Maybe, Rule};
 use wh_base::statements::RawKind;
 use wh_base::txt::Txt;
 use wh_base::values::Literal;
+use wh_base::wide::Wide;
 
 /// A name.
 pub struct PlainName;
@@ -63,8 +64,8 @@ impl Rule for NumberLiteral {
     ghost reads = { mapped Number signed };
 
     fn read(parser: &mut Parser<'_>) -> Result<Literal, ParseFault> {
-        let n = Signed::read(parser)?;
-        Ok(Literal::Number(n))
+        let number = Signed::read(parser)?;
+        Ok(Literal::Number(Wide::new(number)))
     }
 }
 

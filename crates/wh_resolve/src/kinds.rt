@@ -86,7 +86,7 @@ fn is_too_long(literal: &Literal) -> bool
     ensures { result ≡ is_too_long literal.now }
 {
     match literal {
-        Literal::Number(number) => is_long_number(*number),
+        Literal::Number(number) => is_long_number(number.get()),
         Literal::Quoted(text) => text.as_slice().len() > TEXT_LIMIT,
     }
 }

@@ -2,7 +2,7 @@ ghost use Rattle.std.specs.Prelude.{◌≡◌, IfOk};
 ghost use Rattle.def_resolve.specs.Names.{column_in, column_named, column_of, is_qualified_by, name_refusal, name_text, part_named, part_text};
 ghost use Rattle.wh_base.specs.Tables.{column_number};
 
-use crate::sources::{Source, same_text};
+use crate::sources::Source;
 use std::alloc::{AllocError, Global};
 use wh_base::columns::{ColPart, ColRef};
 use wh_base::queries::{ColName, NamePart};
@@ -16,7 +16,7 @@ fn column_number(def: &TableDef, name: &Txt) -> Option<u32>
     ensures { result ≡ column_number def.now name.now }
 {
     for at in 0..def.columns.len() {
-        if same_text(&def.columns.as_slice()[at].name, name) {
+        if def.columns.as_slice()[at].name.same_as(name) {
             return Some(at as u32);
         }
     }
@@ -42,7 +42,7 @@ fn is_qualified_by(qualifier: &Option<Txt>, source: &Source<'_>) -> bool
     ensures { result ≡ is_qualified_by qualifier.now source.now }
 {
     match qualifier {
-        Some(qualifier) => same_text(qualifier, source.label()),
+        Some(qualifier) => qualifier.same_as(source.label()),
         None => true,
     }
 }

@@ -83,7 +83,7 @@ fn literal_value(alloc: Global, literal: &Literal) -> Result<Value, AllocError>
     ensures { IfOk result (λ v. v ≡ literal_value literal.now) }
 {
     match literal {
-        Literal::Number(number) => Ok(Value::Num(*number)),
+        Literal::Number(number) => Ok(Value::Num(number.get())),
         Literal::Quoted(text) => {
             if text.as_slice().is_empty() {
                 Ok(Value::Null)

@@ -1,6 +1,5 @@
 ghost use Rattle.std.specs.Prelude.{◌≡◌, ◌<◌, ◌^◌, IfOk, length, unwrap_or};
 ghost use Rattle.def_resolve.specs.Names.{source_of, sources_of, table_refusal};
-ghost use Rattle.wh_base.specs.Lists.{same_text};
 ghost use Rattle.wh_base.specs.Tables.{table_number};
 
 use std::alloc::{AllocError, Global};
@@ -58,13 +57,6 @@ impl<'a> Source<'a> {
     }
 }
 
-/// Whether the two are the same text.
-pub fn same_text(a: &Txt, b: &Txt) -> bool
-    ensures { result ≡ same_text a.now b.now }
-{
-    a.as_slice() == b.as_slice()
-}
-
 /// The number of the table of this name.
 #[tactic(auto, using(crate::proofs::Places::places))]
 fn table_number(defs: &[TableDef], name: &Txt) -> Option<u32>
@@ -72,7 +64,7 @@ fn table_number(defs: &[TableDef], name: &Txt) -> Option<u32>
     ensures { result ≡ table_number defs.now name.now }
 {
     for at in 0..defs.len() {
-        if same_text(&defs[at].name, name) {
+        if defs[at].name.same_as(name) {
             return Some(at as u32);
         }
     }

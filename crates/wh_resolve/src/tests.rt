@@ -9,6 +9,7 @@ use wh_base::seq::Seq;
 use wh_base::tables::{ColumnDef, Kind, TableDef};
 use wh_base::txt::Txt;
 use wh_base::values::{Literal, Op};
+use wh_base::wide::Wide;
 
 fn one<T: Drop>(alloc: Global, item: T) -> Result<Seq<T>, AllocError> {
     let mut list = Seq::new(alloc);
@@ -60,11 +61,15 @@ fn query(
         what: RawWhat::Plain(column(alloc, name)?),
         alias: None,
     };
-    let equal = RawCondition::Compare(column(alloc, name)?, Op::Eq, Literal::Number(number));
+    let equal = RawCondition::Compare(
+        column(alloc, name)?,
+        Op::Eq,
+        Literal::Number(Wide::new(number)),
+    );
     let more = RawTest {
         agg: RawAgg::CountRows,
         op: Op::Gt,
-        literal: Literal::Number(1),
+        literal: Literal::Number(Wide::new(1)),
     };
     let key = RawKey {
         what: RawOrder::Position(position),

@@ -5,7 +5,7 @@ ghost use Rattle.wh_base.specs.Values.{int_text};
 ghost use Rattle.wh_base.specs.declared.queries.ColName.{ColName};
 
 use crate::names::name_refusal;
-use crate::sources::{Source, same_text};
+use crate::sources::Source;
 use itoa::Buffer;
 use std::alloc::{AllocError, Global};
 use wh_base::queries::{
@@ -206,7 +206,7 @@ fn is_called(item: &RawItem, name: &Txt) -> bool
     ensures { result ≡ option_case item.now.alias false (same_text name.now) }
 {
     match &item.alias {
-        Some(alias) => same_text(name, alias),
+        Some(alias) => name.same_as(alias),
         None => false,
     }
 }

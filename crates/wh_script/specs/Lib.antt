@@ -1,1 +1,5 @@
-pub mod Reading
+pub mod Sections
+pub mod Drafts
+pub mod Pieces
+pub mod Built
+pub mod Texts

@@ -1,19 +1,17 @@
-ghost use Rattle.def_built.specs.Commands.{agg_is_built, block_insert, commands_are_built, computed_is_built, first_is_built, from_is_built, groups_are_built, insert_is_built, is_key_item, is_named, items_are_built, kind_is_built, later_is_built, part_is_built, part_name, plain_name, query_is_built, rows_inserted, same_part_name, table_is_built};
+ghost use Rattle.def_built.specs.Commands.{agg_is_built, block_insert, computed_is_built, first_is_built, from_is_built, groups_are_built, is_key_item, is_named, items_are_built, kind_is_built, later_is_built, part_is_built, part_name, plain_name, query_is_built, rows_inserted, same_part_name, table_is_built, table_may_follow};
+ghost use Rattle.def_built.specs.Forms.{block_form, change_form, command_form, statement_form, table_form};
 ghost use Rattle.std.specs.List.{list_all, list_any};
 ghost use Rattle.std.specs.Option.{option_copied};
 ghost use Rattle.std.specs.Prelude.{◌≡◌, ◌<◌, ◌≤◌, ◌^◌, false, is_none, is_some, length, nat_le, option_map, sum_by, take};
 ghost use Rattle.wh_base.specs.Lists.{option_case, repeated};
 
+use def_built::forms::{Form, is_built};
 use wh_base::queries::{ColName, NamePart, RawAgg, RawExpr, RawItem, RawQuery, RawTable, RawWhat};
-use wh_base::shared::Shared;
 use wh_base::statements::{
     Block, ChangeStatement, Command, InsertRows, NewTable, RawKind, Statement, TablePart,
     TableStatement,
 };
 use wh_base::txt::Txt;
-
-/// The most rows that all INSERTs of a script have together.
-const MOST_ROWS: usize = 262_144;
 
 fn kind_is_built(kind: &RawKind) -> bool
     ensures { result ≡ kind_is_built kind.now }
@@ -208,8 +206,8 @@ fn block_insert(statements: &[Statement]) -> Option<&InsertRows>
     }
 }
 
-// The rows that a command inserts.
-fn rows_inserted(command: &Command) -> usize
+/// The rows that a command inserts.
+pub fn rows_inserted(command: &Command) -> usize
     ensures rows { result ≡ rows_inserted command.now }
     ensures few { result < 2 ^ 32 }
 {
@@ -222,69 +220,111 @@ fn rows_inserted(command: &Command) -> usize
     }
 }
 
-fn block_is_built(block: &Block) -> bool
-    ensures { result ≡ option_case (block_insert block.now.statements) false insert_is_built }
+fn change_form(change: &ChangeStatement) -> Form
+    ensures { result ≡ change_form change.now }
 {
-    match block_insert(block.statements.as_slice()) {
-        Some(insert) => insert.columns.is_none(),
-        None => false,
+    match change {
+        ChangeStatement::Insert(_) => Form::Insert,
+        ChangeStatement::Update(_) => Form::Update,
+        ChangeStatement::Delete(_) => Form::Delete,
+        ChangeStatement::Load(_) => Form::Load,
     }
 }
 
-fn later_is_built(command: &Command) -> bool
+fn table_form(table: &TableStatement) -> Form
+    ensures { result ≡ table_form table.now }
+{
+    match table {
+        TableStatement::CreateTable(_) => Form::CreateTable,
+        TableStatement::AlterTable(_) => Form::AlterTable,
+    }
+}
+
+fn statement_form(statement: &Statement) -> Form
+    ensures { result ≡ statement_form statement.now }
+{
+    match statement {
+        Statement::Select(_) => Form::Select,
+        Statement::Change(change) => change_form(change),
+        Statement::Table(table) => table_form(table),
+        Statement::Log(_) => Form::Log,
+        Statement::View(_) => Form::View,
+        Statement::Dimension(_) => Form::Dimension,
+        Statement::Refresh(_) => Form::Refresh,
+        Statement::Purge(_) => Form::Purge,
+        Statement::Show(_) => Form::Show,
+        Statement::ExplainQuery(_) => Form::ExplainQuery,
+        Statement::Session(_) => Form::Setting,
+    }
+}
+
+// The form of a block by its statements.
+fn block_form(statements: &[Statement]) -> Form
+    ensures { result ≡ block_form statements.now }
+{
+    match statements {
+        [Statement::Change(change)] => change_form(change),
+        _ => Form::Block,
+    }
+}
+
+/// The form of a command.
+pub fn command_form(command: &Command) -> Form
+    ensures { result ≡ command_form command.now }
+{
+    match command {
+        Command::Block(block) => block_form(block.statements.as_slice()),
+        Command::Other(statement) => statement_form(statement),
+    }
+}
+
+fn table_may_follow(table: &TableStatement) -> bool
+    ensures { result ≡ table_may_follow table.now }
+{
+    match table {
+        TableStatement::CreateTable(_) => false,
+        TableStatement::AlterTable(_) => is_built(Form::AlterTable),
+    }
+}
+
+fn statement_may_follow(statement: &Statement) -> bool
+    ensures { result ≡ later_is_built (Command.Other statement.now) }
+{
+    match statement {
+        Statement::Select(asked) => is_built(Form::Select) && query_is_built(&asked.query),
+        Statement::Table(table) => table_may_follow(table),
+        Statement::Change(_) => false,
+        _ => is_built(statement_form(statement)),
+    }
+}
+
+fn block_may_follow(block: &Block) -> bool
+    ensures { result ≡ later_is_built (Command.Block block.now) }
+{
+    match block_insert(block.statements.as_slice()) {
+        Some(insert) => is_built(Form::Insert) && insert.columns.is_none(),
+        None => is_built(block_form(block.statements.as_slice())),
+    }
+}
+
+/// Whether the program runs a command behind the first so far, whatever stands before it.
+pub fn later_is_built(command: &Command) -> bool
     ensures { result ≡ later_is_built command.now }
 {
     match command {
-        Command::Block(block) => block_is_built(block),
-        Command::Other(Statement::Select(asked)) => query_is_built(&asked.query),
-        Command::Other(_) => false,
+        Command::Block(block) => block_may_follow(block),
+        Command::Other(statement) => statement_may_follow(statement),
     }
 }
 
-fn first_is_built(command: &Command) -> bool
+/// Whether the program runs a command as the first of a section so far.
+pub fn first_is_built(command: &Command) -> bool
     ensures { result ≡ first_is_built command.now }
 {
     match command {
-        Command::Other(Statement::Table(TableStatement::CreateTable(table))) => table_is_built(
-            table,
-        ),
+        Command::Other(Statement::Table(TableStatement::CreateTable(table))) => {
+            is_built(Form::CreateTable) && table_is_built(table)
+        }
         _ => false,
-    }
-}
-
-fn all_later(commands: &[Shared<Command>]) -> bool
-    ensures { result ≡ list_all later_is_built commands.now }
-{
-    for command in commands {
-        if !later_is_built(command.get()) {
-            return false;
-        }
-    }
-    true
-}
-
-// Whether the commands insert no more rows than a script may.
-fn rows_are_few(commands: &[Shared<Command>]) -> bool
-    ensures { result ≡ nat_le (sum_by rows_inserted commands.now) 262144 }
-{
-    let mut rows = 0;
-    for command in commands {
-        rows += rows_inserted(command.get());
-        if rows > MOST_ROWS {
-            return false;
-        }
-    }
-    true
-}
-
-/// Whether these are a CREATE TABLE, and then INSERTs and SELECTs of the forms that are built, or none.
-pub fn commands_are_built(commands: &[Shared<Command>]) -> bool
-    ensures { result ≡ commands_are_built commands.now }
-{
-    match commands {
-        [] => true,
-        [first, later @ ..] => first_is_built(first.get())
-            && all_later(later)
-            && rows_are_few(later),
     }
 }

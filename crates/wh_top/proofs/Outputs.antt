@@ -1,12 +1,12 @@
 -- What is written and counted for a script, by its sections.
 use Rattle.std.proofs.Common.{IfSome, None, subst, ◌≡◌, ◌∙◌, sym, ap, refl, arith, rules, ℕ, suc, ◌+◌, List, [], ◌∷◌, ◌++◌, length, map, Some}
 use Rattle.std.specs.List.{enumerate_from}
-use Rattle.std.specs.Prelude.{◌&&◌, ◌==◌, OnOk, Option, Result, Ok, Err, not, slice_index, slice_set, true}
+use Rattle.std.specs.Prelude.{◌&&◌, ◌==◌, ◌||◌, Bool, OnOk, false, Option, Result, Ok, Err, slice_index, slice_set, true}
 use Rattle.std.proofs.lemmas.Bool.{and_parts}
 use Rattle.std.proofs.lemmas.Bool.Decides.{nat_tests}
 use Rattle.std.proofs.lemmas.List.{append_assoc}
 use Rattle.def_built.specs.Commands.{commands_are_built}
-use Rattle.def_built.specs.Form.{built_script, no_section, script_is_built, section_is_built, sections_are_built}
+use Rattle.def_built.specs.Form.{no_section, script_is_built, section_is_built, sections_are_built}
 use Rattle.def_journal.specs.Journal.{replies_of}
 use Rattle.def_output.specs.Reads.{reads_of}
 use Rattle.def_transcript.specs.Texts.{journal_line, lines_text}
@@ -14,7 +14,7 @@ use Rattle.wh_base.specs.Lists.{is_empty}
 use Rattle.wh_base.specs.declared.statements.Command.{Command}
 use Rattle.wh_base.specs.declared.statements.Script.{Script}
 use Rattle.wh_base.specs.declared.statements.Section.{Section}
-use Rattle.wh_top.specs.Top.{AreTold, Counted, IsOfSetup, output_of, reads_in, setup_events, told_text}
+use Rattle.wh_top.specs.Top.{AreTold, Counted, IsOfSetup, output_of, reads_in, script_read, setup_events, told_text}
 use Rattle.wh_top.proofs.Transcripts.{other_reads, setup_reads, setup_transcript}
 
 -- ---- the sections of a script that is built
@@ -23,17 +23,22 @@ empty_is : {A : Type 0} (xs : List A) → is_empty xs ≡ true → xs ≡ []
 empty_is [] h = refl
 empty_is (x ∷ xs) h = cc
 
+-- a form that the table doesn't have
+or_not : (p : Bool) → (p || false) ≡ true → p ≡ true
+or_not true h = refl
+or_not false h = h
+
 pub setup_script : (script : Script) (others : List Section) (setup : Section) → script_is_built script ≡ true → script.sections ≡ others ++ setup ∷ [] → IsOfSetup script setup.commands
 setup_script script others setup h is =
-    let both = and_parts (sections_are_built script.sections) (is_empty script.order) h in
+    let both = and_parts (sections_are_built script.sections) (is_empty script.order || false) h in
     let alone = only_section others setup (sym (ap sections_are_built is) ∙ both.0) in
-    let section = and_parts (setup.session == 0) (commands_are_built setup.commands && not (is_empty setup.commands)) alone.1 in
-    let built = and_parts (commands_are_built setup.commands) (not (is_empty setup.commands)) section.1 in
-    let session : setup.session ≡ 0 = grind (arith, nat_tests, section.0) in
-    let none : script.order ≡ [] = empty_is script.order both.1 in
+    let section = and_parts ((setup.session == 0) || false) (commands_are_built setup.commands) alone.1 in
+    let zero : (setup.session == 0) ≡ true = or_not (setup.session == 0) section.0 in
+    let session : setup.session ≡ 0 = grind (arith, nat_tests, zero) in
+    let none : script.order ≡ [] = empty_is script.order (or_not (is_empty script.order) both.1) in
     let made : ℕ → List ℕ → Script = λ n o. record { sections = record { session = n; commands = setup.commands } ∷ []; order = o } in
     let same : script ≡ made setup.session script.order = ap (λ ss. record { sections = ss; order = script.order }) (is ∙ ap (λ ss. ss ++ setup ∷ []) alone.0) in
-    let commands : commands_are_built setup.commands ≡ true = built.0 in
+    let commands : commands_are_built setup.commands ≡ true = section.1 in
     (same ∙ ap (λ n. made n script.order) session ∙ ap (made 0) none, search (rules, commands))
   where
     only_section : (others : List Section) (setup : Section) → sections_are_built (others ++ setup ∷ []) ≡ true → (others ≡ []) × (section_is_built setup ≡ true)
@@ -43,8 +48,8 @@ setup_script script others setup h is =
 
 pub no_script : (script : Script) → script_is_built script ≡ true → script.sections ≡ [] → script ≡ no_section
 no_script script h is =
-    let both = and_parts (sections_are_built script.sections) (is_empty script.order) h in
-    let none : script.order ≡ [] = empty_is script.order both.1 in
+    let both = and_parts (sections_are_built script.sections) (is_empty script.order || false) h in
+    let none : script.order ≡ [] = empty_is script.order (or_not (is_empty script.order) both.1) in
     ap (λ ss. record { sections = ss; order = script.order }) is ∙ ap (λ o. record { sections = []; order = o }) none
 
 -- ---- what is written
@@ -100,7 +105,7 @@ counted_by script [] new many is others = absurd (none 0 refl many)
     none n empty many = omega (arith, empty, many)
 counted_by script (c ∷ cs) new many is others = is ∙ all_counted script c (c + reads_in script 0) cs refl others
 
-pub counted_where : (left : Option (List ℕ)) (script : Script) (old new : List ℕ) → IfSome left (λ bytes. built_script bytes ≡ Some script) → Counted old new (Some script) → IfSome left (λ bytes. Counted old new (built_script bytes))
+pub counted_where : (left : Option (List ℕ)) (script : Script) (old new : List ℕ) → IfSome left (λ bytes. script_read bytes ≡ Some script) → Counted old new (Some script) → IfSome left (λ bytes. Counted old new (script_read bytes))
 counted_where None script old new read counted = tt
 counted_where (Some bytes) script old new read counted = subst (Counted old new) (sym read) counted
 

@@ -1,8 +1,9 @@
 -- What the program does, as one function of what it is given.
 use Rattle.std.specs.List.{enumerate_from}
-use Rattle.std.specs.Prelude.{◌≡◌, ◌+◌, ◌++◌, Bool, IsTrue, false, List, [], ◌∷◌, None, Option, Some, codes, flat_map, map, suc, ℕ}
+use Rattle.std.specs.Prelude.{◌≡◌, ◌+◌, ◌++◌, Bool, Err, IsTrue, Ok, false, List, [], ◌∷◌, None, Option, Some, codes, flat_map, map, suc, ℕ}
 use Rattle.def_built.specs.Commands.{commands_are_built}
-use Rattle.def_built.specs.Form.{setup_of}
+use Rattle.def_built.specs.Form.{built_script, setup_of}
+use Rattle.def_grammar.specs.Script.{Outcome}
 use Rattle.def_journal.specs.Journal.{Told, event_of, order_of, reply_to}
 use Rattle.def_output.specs.Reads.{read_of, session_reads}
 use Rattle.def_transcript.specs.Texts.{lines_text, reply_lines}
@@ -23,6 +24,15 @@ abbrev pub is_order : List (List ℕ) → Bool
 is_order [] = false
 is_order (word ∷ []) = same_text word (codes "order")
 is_order (word ∷ w ∷ words) = false
+
+-- the script that was read, where there is one
+abbrev pub script_in : Outcome → Option Script
+script_in (Ok p) = Some p.0
+script_in (Err e) = None
+
+-- the script that the bytes are, where they are one of forms that are built
+abbrev pub script_read : List ℕ → Option Script
+script_read bytes = script_in (built_script bytes false)
 
 -- what is written: the transcript of the script under the journal of its own order
 abbrev pub output_of : Option Script → List ℕ

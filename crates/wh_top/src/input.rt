@@ -1,15 +1,15 @@
-ghost use Rattle.std.specs.Prelude.{◌≡◌, ◌<◌, ◌≤◌, None, Some, IfOk, IfSome, IsErrOf, OnOk, length, true};
+ghost use Rattle.std.specs.Prelude.{◌≡◌, ◌<◌, ◌≤◌, Err, Some, IfOk, IfSome, IsErrOf, OnOk, false, length, true};
 ghost use Rattle.std.specs.Io.KnownBytes.{IsAtEnd};
 ghost use Rattle.def_built.specs.Form.{built_script, script_is_built};
 ghost use Rattle.wh_io.specs.Causes.{Rose};
-ghost use Rattle.wh_script.specs.Reading.{not_built};
 ghost use Rattle.wh_top.specs.Endings.{IfBad};
-ghost use Rattle.wh_top.specs.Top.{most_bytes};
+ghost use Rattle.wh_top.specs.Top.{most_bytes, script_read};
 
 use std::alloc::Global;
 use wh_base::statements::{BadScript, Script};
 use wh_io::{ReadFault, Source, read_all};
-use wh_script::script::{ScriptFault, read_script};
+use wh_script::fault::ScriptFault;
+use wh_script::script::read_script;
 
 /// Why there is no script.
 #[derive(Clone, Copy, Debug, PartialEq, Eq)]
@@ -29,13 +29,13 @@ const MOST_BYTES: usize = 8388608;
 /// Reads a script from a source, to the end of its bytes. The bytes are gone then, so that they aren't held beside what
 /// the script makes.
 pub fn read_input<S: Source>(alloc: Global, source: &mut S) -> Result<Script, InputFault>
-    ensures script { IfOk result (λ script. IfSome (S.left source.old) (λ bytes. built_script bytes ≡ Some script)) }
+    ensures script { IfOk result (λ script. IfSome (S.left source.old) (λ bytes. script_read bytes ≡ Some script)) }
     ensures short { IfOk result (λ script. IfSome (S.left source.old) (λ bytes. length bytes ≤ most_bytes)) }
     ensures built { IfOk result (λ script. script_is_built script ≡ true) }
     ensures end { OnOk result (IsAtEnd (S.left source.new)) }
     ensures failed { IsErrOf result InputFault.Failed → Rose (S.faults source.old) (S.faults source.new) }
     ensures too_long { IsErrOf result InputFault.TooLong → IfSome (S.left source.old) (λ bytes. most_bytes < length bytes) }
-    ensures bad { IfBad result (λ b. IfSome (S.left source.old) (λ bytes. built_script bytes ≡ None) × (b ≡ not_built)) }
+    ensures bad { IfBad result (λ b. IfSome (S.left source.old) (λ bytes. built_script bytes false ≡ Err b)) }
     ensures bad_short { IfBad result (λ b. IfSome (S.left source.old) (λ bytes. length bytes ≤ most_bytes)) }
 {
     let bytes = match read_all(alloc, source, MOST_BYTES) {
@@ -44,8 +44,8 @@ pub fn read_input<S: Source>(alloc: Global, source: &mut S) -> Result<Script, In
         Err(ReadFault::Failed) => return Err(InputFault::Failed),
         Err(ReadFault::TooLong) => return Err(InputFault::TooLong),
     };
-    match read_script(alloc, bytes.as_slice()) {
-        Ok(script) => Ok(script),
+    match read_script(alloc, bytes.as_slice(), false) {
+        Ok(read) => Ok(read.script),
         Err(ScriptFault::Memory) => Err(InputFault::Memory),
         Err(ScriptFault::Bad(fault)) => Err(InputFault::Bad(fault)),
     }

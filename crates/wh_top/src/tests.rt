@@ -10,11 +10,11 @@ use wh_base::txt::Txt;
 use wh_io::{MemorySink, MemorySource};
 
 #[derive(Drop)]
-struct Mark;
+pub(crate) struct Mark;
 
 const COUNTERS: usize = 65;
 
-fn counters(alloc: Global) -> Result<Vec<Reads<Mark>>, AllocError>
+pub(crate) fn counters(alloc: Global) -> Result<Vec<Reads<Mark>>, AllocError>
     ensures counters { IfOk result (λ reads. length reads.items ≡ 65) }
     ensures low { IfOk result (λ reads. All (λ n. n ≤ 2 ^ 62) reads.items) }
 {
@@ -26,7 +26,7 @@ fn counters(alloc: Global) -> Result<Vec<Reads<Mark>>, AllocError>
     Ok(reads)
 }
 
-fn words(alloc: Global, each: &[&str]) -> Result<Seq<Txt>, AllocError> {
+pub(crate) fn words(alloc: Global, each: &[&str]) -> Result<Seq<Txt>, AllocError> {
     let mut words = Seq::new(alloc);
     for word in each {
         words.push(Txt::from_slice(alloc, word.as_bytes())?)?;
@@ -48,10 +48,6 @@ const TOO_LONG: &str =
 #[test]
 fn scripts(rt: HostRuntime) -> Result<(), Fail> {
     let alloc = rt.alloc();
-    let not_built = Status::BadScript {
-        line: 1,
-        kind: ScriptKind::NotBuilt,
-    };
     for (script, read_fails, write_fails, status, written, rows) in [
         ("@end\n", 0, 0, Status::Done, "journal\n", 0),
         ("@end\n", 0, 2, Status::WriteFault, "jour", 0),
@@ -81,8 +77,7 @@ fn scripts(rt: HostRuntime) -> Result<(), Fail> {
             "0.1 DONE SCN 1 READ 0\n0.2 COMMITTED SCN 2 ROWS 1 READ 0 VIEWS 0\n0.3 REFUSED MV-04 AT 1 N A READ 0\n0.4 ANSWER SCN 2 PLAN BASE READ 1 ROWS 1\n999999999999999|999999999999999\n0.5 ANSWER SCN 2 PLAN BASE READ 1 ROWS 1\n999999999999999|1\njournal 0.1.1 0.2.1 0.3.1 0.4.1 0.5.1\n",
             2,
         ),
-        ("", 0, 0, not_built, "", 0),
-        ("@setup\nSELECT;\n@end\n", 0, 0, not_built, "", 0),
+        ("@setup\n@end", 0, 0, Status::Done, "journal\n", 0),
     ] {
         let mut reads = counters(alloc)?;
         let bytes = Vec::from_slice(alloc, script.as_bytes())?;
@@ -118,15 +113,15 @@ fn other_words(rt: HostRuntime) -> Result<(), Fail> {
     Ok(())
 }
 
-/// White space of the greatest length is read whole, and isn't a script; one byte more is too long.
+/// Blanks of the greatest length are read whole, and have no end; one byte more is too long.
 #[test]
 fn greatest_length(rt: HostRuntime) -> Result<(), Fail> {
     let alloc = rt.alloc();
-    let not_built = Status::BadScript {
+    let no_end = Status::BadScript {
         line: 1,
-        kind: ScriptKind::NotBuilt,
+        kind: ScriptKind::NoEnd,
     };
-    for (length, status) in [(8388608, not_built), (8388609, Status::TooLong)] {
+    for (length, status) in [(8388608, no_end), (8388609, Status::TooLong)] {
         let mut reads = counters(alloc)?;
         let mut bytes = Vec::new(alloc);
         bytes.resize(length, b' ')?;

@@ -1,9 +1,9 @@
-ghost use Rattle.std.specs.Prelude.{◌≡◌, ◌++◌, ◌+◌, ◌∷◌, ◌<◌, ◌≤◌, ◌^◌, ◌↔◌, [], length, None, Some, IfOk, OnOk, IfSome, IsSome, IsTrue, All, true, false, slice_set};
+ghost use Rattle.std.specs.Prelude.{◌≡◌, ◌++◌, ◌+◌, ◌∷◌, ◌<◌, ◌≤◌, ◌^◌, ◌↔◌, [], length, Err, None, Some, IfOk, OnOk, IfSome, IsSome, IsTrue, All, true, false, slice_set};
 ghost use Rattle.std.specs.Io.KnownBytes.{Appends, IsAtEnd};
 ghost use Rattle.def_built.specs.Form.{built_script, script_is_built};
 ghost use Rattle.wh_io.specs.Causes.{Rose, AppendsPart};
 ghost use Rattle.wh_top.specs.Endings.{IfBadScript, IsOfBytes, IsSilent, IsUnread, IsWritten};
-ghost use Rattle.wh_top.specs.Top.{Counted, is_order, most_bytes, output_of, reads_in};
+ghost use Rattle.wh_top.specs.Top.{Counted, is_order, most_bytes, output_of, reads_in, script_read};
 
 use crate::input::{InputFault, read_input};
 use crate::output::output;
@@ -27,7 +27,7 @@ pub enum Status {
     ReadFault,
     /// The sink failed; it has a part of the transcript.
     WriteFault,
-    /// The bytes are no script, from this line on, counted from 1.
+    /// The bytes are no script: their first fault, and its line, counted from 1.
     BadScript { line: u64, kind: ScriptKind },
     /// The source has more than 8,388,608 bytes.
     TooLong,
@@ -56,8 +56,8 @@ pub fn top_order<S: Source, K: Sink, L>(
     requires low { All (λ n. n ≤ 2 ^ 62) reads.old }
 
     // The sink holds what it held, and then the transcript of the script that the source's bytes are.
-    ensures done { result ≡ Status.Done → IfSome (S.left source.old) (λ bytes. IsSome (built_script bytes)
-        × Appends (K.holds sink.old) (K.holds sink.new) (output_of (built_script bytes))) }
+    ensures done { result ≡ Status.Done → IfSome (S.left source.old) (λ bytes. IsSome (script_read bytes)
+        × Appends (K.holds sink.old) (K.holds sink.new) (output_of (script_read bytes))) }
     ensures end { result ≡ Status.Done → IsAtEnd (S.left source.new) }
 
     // Each answer but Done has its cause.
@@ -65,17 +65,16 @@ pub fn top_order<S: Source, K: Sink, L>(
     ensures read_fault { result ≡ Status.ReadFault → Rose (S.faults source.old) (S.faults source.new) }
     ensures too_long { result ≡ Status.TooLong → IfSome (S.left source.old) (λ bytes. most_bytes < length bytes) }
     ensures short { IsOfBytes result → IfSome (S.left source.old) (λ bytes. length bytes ≤ most_bytes) }
-    ensures bad_script { IfBadScript result (λ line kind. IfSome (S.left source.old) (λ bytes. built_script bytes ≡ None)
-        × (line ≡ 1) × (kind ≡ ScriptKind.NotBuilt)) }
+    ensures bad_script { IfBadScript result (λ line kind. IfSome (S.left source.old) (λ bytes. built_script bytes false ≡ Err (record { line = line; kind = kind }))) }
     ensures write_fault { result ≡ Status.WriteFault → Rose (K.faults sink.old) (K.faults sink.new) }
-    ensures part { result ≡ Status.WriteFault → IfSome (S.left source.old) (λ bytes. IsSome (built_script bytes)
-        × AppendsPart (K.holds sink.old) (K.holds sink.new) (output_of (built_script bytes))) }
+    ensures part { result ≡ Status.WriteFault → IfSome (S.left source.old) (λ bytes. IsSome (script_read bytes)
+        × AppendsPart (K.holds sink.old) (K.holds sink.new) (output_of (script_read bytes))) }
 
     // Nothing is written and no fault is passed over otherwise.
     ensures silent { IsSilent result → sink.new ≡ sink.old }
 
     // The counters rise by the rows that the replies say were read.
-    ensures counted { IsWritten result → IfSome (S.left source.old) (λ bytes. Counted reads.old reads.new (built_script bytes)) }
+    ensures counted { IsWritten result → IfSome (S.left source.old) (λ bytes. Counted reads.old reads.new (script_read bytes)) }
     ensures uncounted { IsUnread result → reads.new ≡ reads.old }
 {
     if !is_order(words.as_slice()) {

@@ -1,0 +1,14 @@
+pub mod Adding
+pub mod Counting
+pub mod Extremes
+pub mod Kept
+pub mod Keys
+pub mod Limits
+pub mod Made
+pub mod Merged
+pub mod Numbers
+pub mod Places
+pub mod Rooms
+pub mod Sorted
+pub mod Steps
+pub mod Turns

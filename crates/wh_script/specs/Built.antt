@@ -1,0 +1,41 @@
+-- What is asked of one more step of a draft, where what was read before it is built.
+use Rattle.def_built.specs.Commands.{most_rows, rows_inserted}
+use Rattle.def_built.specs.Form.{sections_are_built}
+use Rattle.def_built.specs.Forms.{is_built}
+use Rattle.def_built.specs.declared.forms.Form.TheVariants as forms
+use Rattle.def_grammar.specs.Script.{Draft}
+use Rattle.std.specs.Prelude.{◌&&◌, ◌||◌, ◌==◌, ◌+◌, ◌++◌, ◌∷◌, ◌≡◌, Bool, List, None, Option, Some, [], min, sum_by, true, ℕ}
+use Rattle.wh_base.specs.Lists.{is_empty}
+use Rattle.wh_base.specs.declared.statements.Command.{Command}
+use Rattle.wh_base.specs.declared.statements.Section.{Section}
+
+-- the rows that the commands behind the first insert
+abbrev pub rows_behind_first : List Command → ℕ
+rows_behind_first [] = 0
+rows_behind_first (c ∷ cs) = sum_by rows_inserted cs
+
+-- the same, where what is above the most that a script may insert counts as one more than that
+abbrev pub rows_kept : List Command → ℕ
+rows_kept cs = min (rows_behind_first cs) (most_rows + 1)
+
+abbrev pub but_last : {A : Type 0} → List A → List A
+but_last [] = []
+but_last (x ∷ []) = []
+but_last (x ∷ y ∷ xs) = x ∷ but_last (y ∷ xs)
+
+-- the section of these commands without the last one; none where there is no command
+abbrev pub shorter_section : ℕ → List Command → List Section
+shorter_section n [] = []
+shorter_section n (c ∷ cs) = record { session = n; commands = but_last (c ∷ cs) } ∷ []
+
+abbrev pub shorter_last : Option Section → List Section
+shorter_last None = []
+shorter_last (Some s) = shorter_section s.session s.commands
+
+-- all before the last command is built, or before the last section where it has none
+abbrev pub IsBuiltBefore : Draft → Type 0
+IsBuiltBefore d = sections_are_built (d.before ++ shorter_last d.now) ≡ true
+
+-- a section of this session may stand behind these
+abbrev pub may_stand : List Section → ℕ → Bool
+may_stand before n = (is_empty before && (n == 0)) || is_built forms.Session

@@ -1,7 +1,0 @@
-use Rattle.std.proofs.Common.{◌≡◌, drop}
-use Rattle.std.specs.List.{list_any}
-use Rattle.wh_sections.specs.Drafts.{is_unknown}
-use Rattle.wh_sections.proofs.order.has_unknown.Given as goal
-
-abbrev pub invariant-loop-number : goal.invariant-loop-number
-invariant-loop-number l = list_any (is_unknown l.sections) (drop l.number-index l.numbers) ≡ list_any (is_unknown l.sections) l.numbers

@@ -1,0 +1,4 @@
+pub mod Cells
+pub mod Chunks
+pub mod Found
+pub mod Small
