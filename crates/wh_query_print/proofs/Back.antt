@@ -10,7 +10,8 @@ use Rattle.def_grammar.specs.Forms.{tokens_or_none}
 use Rattle.def_grammar.specs.Query.{select}
 use Rattle.def_grammar.specs.Reading.{whole}
 use Rattle.def_grammar.specs.Written.{Each, IsSpelled, IsWritten, ReadsAs}
-use Rattle.wh_query_print.proofs.Laid.{AreTokens, laid-tokens, unplaced}
+use Rattle.wh_query_print.specs.Kept.{unplaced}
+use Rattle.wh_query_print.proofs.Laid.{AreTokens, laid-tokens}
 use Rattle.wh_query_print.proofs.PlainTokens.{IsPlain, query-plain}
 use Rattle.wh_query_print.proofs.ReadQuery.{query-read}
 use Rattle.wh_query_print.proofs.Rules.{select-sound}

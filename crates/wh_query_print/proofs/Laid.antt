@@ -16,25 +16,22 @@ use Rattle.wh_lex.specs.declared.token.TokenKind.TheVariants as kinds
 use Rattle.def_grammar.specs.Canonical.{bare, is_call, is_closing, is_joined, is_negative, is_opening, laid, laid_behind, quoted_text, written_token}
 use Rattle.def_grammar.specs.Reading.{doubled, is_token, same_token_kind}
 use Rattle.def_grammar.specs.Written.{Each, IsSpelled, is_line, is_numeral, is_spelling}
+use Rattle.wh_query_print.specs.Kept.{unplaced}
 use Rattle.wh_query_print.proofs.Fronts.{and_first, and_later, begins, front-name, front-number, quoted-text}
 use Rattle.wh_query_print.proofs.Marks.{front-mark, goes_on, open_marks, same-text}
 
--- the token without its place
-abbrev pub unplaced : Token → Token
-unplaced t = bare t.kind t.text
-
 -- the bytes that would go on a token, if they stood behind it
-abbrev goes : TokenKind → List ℕ → ℕ → Bool
+abbrev pub goes : TokenKind → List ℕ → ℕ → Bool
 goes kinds.Name text b = is_name_byte b
 goes kinds.Number text b = is_ascii_digit b
 goes kinds.Text text b = b == 39
 goes kinds.Mark text b = has_text open_marks text && goes_on b
 
-abbrev written : TokenKind → List ℕ → List ℕ
+abbrev pub written : TokenKind → List ℕ → List ℕ
 written kind text = cond (same_token_kind kind kinds.Text) (quoted_text text) text
 
 -- how the token is read at the front of a text
-record Starts (kind : TokenKind) (text : List ℕ) : Type 0 where
+pub record Starts (kind : TokenKind) (text : List ℕ) : Type 0 where
   first : ℕ
   others : List ℕ
   is : written kind text ≡ first ∷ others
@@ -52,7 +49,7 @@ goes_on-open true [] ends h = refl
 goes_on-open true (b ∷ bs) ends h = ends
 goes_on-open false rest ends h = cc
 
-starts : (kind : TokenKind) (text : List ℕ) → is_spelling kind text ≡ true → Starts kind text
+pub starts : (kind : TokenKind) (text : List ℕ) → is_spelling kind text ≡ true → Starts kind text
 starts kinds.Name [] h = cc
 starts kinds.Name (b ∷ bs) h = record { first = b; others = bs; is = refl; read = λ rest ends. front-name b bs rest h ends }
 starts kinds.Number [] h = cc
@@ -74,7 +71,7 @@ one-more : (t u : Token) (us : List Token) (r : Result (List Token) LexFault) �
 one-more t u us (Ok ts) same h = rw (same, h) refl
 one-more t u us (Err e) same h = h
 
-lex-one : (t : Token) (us : List Token) (rest : List ℕ) (place : ℕ) → Starts t.kind t.text → begins (goes t.kind t.text) rest ≡ false
+pub lex-one : (t : Token) (us : List Token) (rest : List ℕ) (place : ℕ) → Starts t.kind t.text → begins (goes t.kind t.text) rest ≡ false
     → ((p : ℕ) → AreTokens (tokens_from 0 p rest) us) → AreTokens (tokens_from 0 place (written_token t ++ rest)) (t ∷ us)
 lex-one t us rest place s ends more =
     let P : Result (List Token) LexFault → Type 0 = λ r. AreTokens r (t ∷ us) in
@@ -172,7 +169,7 @@ joined t u more spelled h =
       | inr e ↦ joined-negative t u more spelled e
     ]
 
-stops-space : (kind : TokenKind) (text more : List ℕ) → begins (goes kind text) (32 ∷ more) ≡ false
+pub stops-space : (kind : TokenKind) (text more : List ℕ) → begins (goes kind text) (32 ∷ more) ≡ false
 stops-space kind text more = stops-mark 32 refl refl refl refl kind text
 
 clear : (t u : Token) (more : List ℕ) (b : Bool) → is_joined t u ≡ b → IsSpelled u → begins (goes t.kind t.text) (cond b [] (32 ∷ []) ++ (written_token u ++ more)) ≡ false
@@ -183,7 +180,7 @@ blank : (rest : List ℕ) → front_of (32 ∷ rest) ≡ front.Blank 0
 unfolding front_of
 blank rest = refl
 
-past-gap : (b : Bool) (rest : List ℕ) (us : List Token) → ((p : ℕ) → AreTokens (tokens_from 0 p rest) us) → (p : ℕ) → AreTokens (tokens_from 0 p (cond b [] (32 ∷ []) ++ rest)) us
+pub past-gap : (b : Bool) (rest : List ℕ) (us : List Token) → ((p : ℕ) → AreTokens (tokens_from 0 p rest) us) → (p : ℕ) → AreTokens (tokens_from 0 p (cond b [] (32 ∷ []) ++ rest)) us
 past-gap true rest us more p = more p
 past-gap false rest us more p =
     let read : tokens_from 0 p (32 ∷ rest) ≡ tokens_from 0 (suc p) rest = ap (λ x. after x p (λ m. tokens_from m (suc p) rest)) (blank rest) in

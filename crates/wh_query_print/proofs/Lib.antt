@@ -2,6 +2,7 @@ mod Decimal
 mod Fronts
 mod Marks
 mod Laid
+mod KeptText
 mod Spelled
 mod Sound
 mod Rules

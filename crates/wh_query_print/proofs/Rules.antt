@@ -35,7 +35,7 @@ use Rattle.def_grammar.specs.Reading.{Rule, bracketed, gives, is_name, listed, m
 use Rattle.def_grammar.specs.Written.{AreTables, Each, EachOfSome, IfThere, IsAggregate, IsColumn, IsCondition, IsExpression, IsItem, IsJoin, IsKey, IsLiteral, IsName, IsNamePart, IsOrder, IsSigned, IsSpelled, IsTable, IsTest, IsUnsigned, IsWhat, IsWritten, is_line, is_numeral, is_spelling}
 use Rattle.wh_lex.proofs.Numbers.{front_fits}
 use Rattle.wh_query_print.proofs.Fronts.{front-number}
-use Rattle.wh_query_print.proofs.Laid.{unplaced}
+use Rattle.wh_query_print.specs.Kept.{unplaced}
 use Rattle.wh_query_print.proofs.Sound.{Alike, Along, Blind, Sound, bind-sound, bracketed-sound, const-sound, gives-sound, listed-sound, many-sound, mapped-sound, mark-blind, maybe-blind, maybe-sound, optional-sound, or-sound, then-blind, then-sound, word-blind}
 
 -- ---- names, numbers and texts

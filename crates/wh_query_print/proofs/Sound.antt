@@ -8,7 +8,7 @@ use Rattle.wh_lex.specs.declared.token.TokenKind.{TokenKind}
 use Rattle.wh_lex.specs.declared.token.TokenKind.TheVariants as kinds
 use Rattle.def_grammar.specs.Reading.{Rule, bracketed, gives, is_token, listed, many, many_times, mapped, mark, maybe, optional_list, or_else, token_where, word, ◌>>=◌, ◌>>◌, ◌or◌}
 use Rattle.def_grammar.specs.Written.{Each, EachOfSome, IfThere, IsSpelled}
-use Rattle.wh_query_print.proofs.Laid.{unplaced}
+use Rattle.wh_query_print.specs.Kept.{unplaced}
 
 -- read alike with the places and without: the same value, of which P holds, and the same rest
 abbrev pub Alike : {A : Type 0} → (A → Type 0) → Option (A × List Token) → Option (A × List Token) → Type 0
