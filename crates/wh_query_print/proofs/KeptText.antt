@@ -40,16 +40,20 @@ each-take zero ts all = tt
 each-take (suc n) [] all = tt
 each-take (suc n) (t ∷ ts) all = (all.0, each-take n ts all.1)
 
--- what a SELECT is read as, by the query that the grammar reads
-text-of : (ts rest : List Token) (a : Asked) (o : Option (RawQuery × List Token))
-    → option_map (λ p. (record { query = p.0; text = spelled (take (length ts - length p.1) ts) }, p.1)) o ≡ Some (a, rest) → spelled (take (length ts - length rest) ts) ≡ a.text
-text-of ts rest a None e = cc
-text-of ts rest a (Some p) e = same p.0 p.1 e
-  where
-    same : (q : RawQuery) (left : List Token) → Some (record { query = q; text = spelled (take (length ts - length left) ts) }, left) ≡ Some (a, rest) → spelled (take (length ts - length rest) ts) ≡ a.text
-    same q left f = cc
+-- what a SELECT is read as, by the query that the grammar reads and what is left
+abbrev asked_of : List Token → RawQuery × List Token → Asked × List Token
+asked_of ts p = (record { query = p.0; text = spelled (take (length ts - length p.1) ts) }, p.1)
+
+some-same : {T : Type 0} (p q : T) → Some p ≡ Some q → p ≡ q
+some-same p q e = cc
+
+text-of : (ts : List Token) (q : Asked × List Token) (o : Option (RawQuery × List Token)) → option_map (asked_of ts) o ≡ Some q → spelled (take (length ts - length q.1) ts) ≡ q.0.text
+text-of ts q None e = cc
+text-of ts q (Some p) e =
+    let same = some-same (asked_of ts p) q e in
+    ap (λ r. spelled (take (length ts - length r.1) ts)) (sym same) ∙ ap (λ r. r.0.text) same
 
 pub kept-has : (ts rest : List Token) (a : Asked) → Each IsSpelled ts → asked ts ≡ Some (a, rest) → HasTokens a.text (take (length ts - length rest) ts)
 kept-has ts rest a all e =
     let n : ℕ = length ts - length rest in
-    subst (λ text. HasTokens text (take n ts)) (text-of ts rest a (select ts) e) (spelled-has (take n ts) (each-take n ts all))
+    subst (λ text. HasTokens text (take n ts)) (text-of ts (a, rest) (select ts) e) (spelled-has (take n ts) (each-take n ts all))
