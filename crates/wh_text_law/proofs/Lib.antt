@@ -1,0 +1,4 @@
+mod Rows
+mod Stars
+mod Later
+mod Steady
