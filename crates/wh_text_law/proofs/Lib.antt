@@ -2,3 +2,5 @@ mod Rows
 mod Stars
 mod Later
 mod Steady
+mod Clauses
+mod Parts

@@ -1,5 +1,5 @@
 -- Rules that read the same from all tokens that are equal up to the word ORDER, wherever these stand and whatever follows.
-use Rattle.std.proofs.Common.{◌≡◌, ℕ, suc, zero, ◌+◌, ◌≤◌, List, [], ◌∷◌, length, refl, ap, sym, arith, true, false, Bool, ◌&&◌, cond, subst, Option, Some, None, option_map, unwrap_or, codes}
+use Rattle.std.proofs.Common.{◌≡◌, ℕ, suc, zero, ◌+◌, ◌≤◌, List, [], ◌∷◌, length, refl, ap, ap₂, sym, arith, true, false, Bool, ◌&&◌, cond, subst, Option, Some, None, option_map, unwrap_or, codes}
 use Rattle.std.proofs.lemmas.Slice.Eq.{bytes_eq-Decides}
 use Rattle.wh_base.specs.Lists.{option_case, same_text, where_true}
 use Rattle.wh_lex.specs.declared.token.Token.{Token}
@@ -113,7 +113,7 @@ then-along : {A B : Type 0} (n : ℕ) (s : Rule B) → Blind 0 s → (o u : Opti
 then-along n s h None None e = tt
 then-along n s h None (Some q) e = absurd e
 then-along n s h (Some p) None e = absurd e
-then-along n s h (Some p) (Some q) e = by (s p.1) (s q.1) (h.along p.1 q.1 e.0)
+then-along {B = B} n s h (Some p) (Some q) e = by (s p.1) (s q.1) (h.along p.1 q.1 e.0)
   where
     by : (o u : Option (B × List Token)) → Along (size p.1) 0 o u → Along n 0 o u
     by None None h = tt
@@ -242,7 +242,7 @@ order-fails f h kinds.Text text e = cc
 order-fails f h kinds.Mark text e = cc
 
 abbrev read : {A : Type 0} → (List ℕ → A) → Bool → Token → List Token → Option (A × List Token)
-read g b t ts = option_map (λ p. (g p.0.text, p.1)) (where_true b (t, ts))
+read g b t ts = option_map {T = Token × List Token} (λ p. (g p.0.text, p.1)) (where_true b (t, ts))
 
 taken : {A : Type 0} (g : List ℕ → A) (b : Bool) (t u : Token) (ts us : List Token) → u.text ≡ t.text → Like ts us → Alike (suc (size ts)) 1 (read g b t ts) (read g b u us)
 taken g true t u ts us e like = (ap g e, like, omega arith)
@@ -254,7 +254,9 @@ near-read : {A : Type 0} (f : TokenKind → List ℕ → Bool) (g : List ℕ →
 near-read f g h t u ts us true true d e near = rw (order-fails f h t.kind t.text d, order-fails f h u.kind u.text e) tt
 near-read f g h t u ts us true false d e near = absurd near
 near-read f g h t u ts us false true d e near = absurd near
-near-read f g h t u ts us false false d e near = rw (sym near.0, sym near.1) (taken g (f t.kind t.text) t u ts us (sym near.1) near.2)
+near-read f g h t u ts us false false d e near =
+    let same : f t.kind t.text ≡ f u.kind u.text = ap₂ f near.0 near.1 in
+    subst (λ (b : Bool). Alike (suc (size ts)) 1 (read g (f t.kind t.text) t ts) (read g b u us)) same (taken g (f t.kind t.text) t u ts us (sym near.1) near.2)
 
 -- a rule of one token, by its kind and text; the word ORDER doesn't pass
 abbrev token_by : {A : Type 0} → (TokenKind → List ℕ → Bool) → (List ℕ → A) → Rule A
