@@ -4,3 +4,4 @@ mod Later
 mod Steady
 mod Clauses
 mod Parts
+mod Answer

@@ -54,3 +54,13 @@ pub fn other_rows()
         → ((n : ℕ) → has_number q.tables n ≡ true → table_at base n ≡ table_at other n)
         → meaning q base ≡ meaning q other }
 {}
+
+/// A query whose text is that of a view up to ORDER BY means what the view stores, in the query's order. The view may have been
+/// resolved and its entries stored earlier: when there were fewer tables, over a base state in which its tables were as they are now.
+pub fn same_answer()
+    ensures { (s t : List Token) (a b : RawQuery) (defs more : List TableDef) (q r : StarQuery) (base now : Base)
+        → match_text s t ≡ FullText → whole select s ≡ Some a → whole select t ≡ Some b
+        → resolve (defs ++ more) a ≡ Ok q → resolve defs b ≡ Ok r
+        → ((n : ℕ) → has_number r.tables n ≡ true → table_at base n ≡ table_at now n)
+        → meaning q now ≡ in_order q.order (map (λ e. e.row) (stored r base)) }
+{}
