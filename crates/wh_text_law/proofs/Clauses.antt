@@ -1,5 +1,5 @@
 -- The clauses of a query before ORDER BY read the same, whatever stands from there on.
-use Rattle.std.proofs.Common.{◌≡◌, ◌≤◌, arith, ℕ, List, [], ◌∷◌, refl, ap, false, Bool, ◌&&◌, Option, Some, None, codes, neg_ℤ, not, option_map, pos, unwrap_or, ℤ}
+use Rattle.std.proofs.Common.{◌≤◌, arith, ℕ, List, ◌∷◌, refl, ◌&&◌, Option, Some, None, codes, neg_ℤ, not, pos, unwrap_or}
 use Rattle.wh_base.specs.Lists.{has_text, option_case}
 use Rattle.wh_base.specs.Values.{digits_number}
 use Rattle.wh_base.specs.declared.queries.ColName.{ColName}
@@ -24,8 +24,8 @@ use Rattle.wh_base.specs.declared.values.Op.TheVariants.{Eq, Ge, Gt, Le, Lt, Ne}
 use Rattle.wh_lex.specs.declared.token.Token.{Token}
 use Rattle.wh_lex.specs.declared.token.TokenKind.TheVariants as kinds
 use Rattle.def_grammar.specs.Query.{aggregate, aggregate_of, alias, all_of, as_of, column, column_named_by, condition, condition_on, expression, from_tables, item, join, joined_table, literal, marker, on_join, op_of, operator, plain_name, product_or_column, qualifier, rowid_as, signed, table, table_with, test, where_conditions}
-use Rattle.def_grammar.specs.Reading.{Rule, bracketed, gives, is_name, listed, many, mapped, mark, maybe, name, number, optional_list, quoted, reserved, same_token_kind, word, ◌>>=◌, ◌>>◌, ◌or◌}
-use Rattle.wh_text_law.proofs.Steady.{Along, Blind, Steady, size, bind-steady, blind-weaker, bracketed-steady, const-steady, gives-steady, listed-steady, many-steady, mapped-steady, mark-blind, mark-first, maybe-blind, maybe-steady, optional-steady, or-steady, then-blind, then-later, then-steady, token-steady, weaker, word-blind, word-first}
+use Rattle.def_grammar.specs.Reading.{Rule, bracketed, gives, listed, many, mapped, mark, maybe, name, number, optional_list, quoted, reserved, same_token_kind, word, ◌>>=◌, ◌>>◌, ◌or◌}
+use Rattle.wh_text_law.proofs.Steady.{Along, Blind, Steady, size, bind-steady, bracketed-steady, const-steady, gives-steady, listed-steady, many-steady, mapped-steady, mark-blind, mark-first, maybe-blind, maybe-steady, optional-steady, or-steady, then-blind, then-later, then-steady, token-steady, weaker, word-blind, word-first}
 
 -- ---- names, numbers and texts
 

@@ -1,5 +1,5 @@
 -- The star form of a query when more tables were created later.
-use Rattle.std.proofs.Common.{ap₂, codes, ◌≡◌, ℕ, suc, zero, ◌+◌, ◌<◌, List, [], ◌∷◌, ◌++◌, refl, ap, sym, ◌∙◌, arith, true, false, Bool, cond, ◌&&◌, ◌||◌, ◌==◌, length, map, subst, not, nat_lt, option_map, unwrap_or, flat_map, filter_map, find, position, slice_get, Option, Some, None, Result, Ok, Err}
+use Rattle.std.proofs.Common.{ap₂, codes, ◌≡◌, ℕ, suc, zero, ◌+◌, ◌<◌, List, [], ◌∷◌, ◌++◌, refl, ap, sym, ◌∙◌, arith, true, false, Bool, cond, ◌&&◌, ◌||◌, ◌==◌, length, map, not, nat_lt, option_map, unwrap_or, flat_map, filter_map, position, slice_get, Option, Some, None, Result, Ok, Err}
 use Rattle.std.proofs.lemmas.Bool.Decides.{nat_tests}
 use Rattle.std.proofs.lemmas.List.{length-append}
 use Rattle.std.specs.List.{AllByRecursion, cons_option, list_any, position_or_len}
@@ -8,7 +8,6 @@ use Rattle.wh_base.specs.Lists.{first_of, first_some, has_number, head, option_c
 use Rattle.wh_base.specs.Tables.{def_at, empty_def, table_number}
 use Rattle.wh_base.specs.declared.columns.ColPart.{ColPart}
 use Rattle.wh_base.specs.declared.columns.ColRef.{ColRef}
-use Rattle.wh_base.specs.declared.columns.Expr.{Expr}
 use Rattle.wh_base.specs.declared.queries.ColName.{ColName}
 use Rattle.wh_base.specs.declared.queries.Edge.{Edge}
 use Rattle.wh_base.specs.declared.queries.RawAgg.{RawAgg}
@@ -36,7 +35,7 @@ use Rattle.wh_base.specs.declared.values.Literal.TheVariants.{Number}
 use Rattle.def_resolve.specs.Kinds.{IsNumber, Sort, agg_refusal, agg_sort, agrees, column_compare_refusal, column_sort, compare_refusal, condition_refusal, equal_refusal, expr_sort, is_plain, is_summed, is_too_long, literal_sort, misfit, misfit_literal, part_sort, printed_part, product_refusal, sum_refusal, summed_refusal, test_refusal}
 use Rattle.def_resolve.specs.Names.{Source, column_in, column_named, column_of, is_qualified_by, names_refusal, no_column, part_named, source_of, sources_of, table_refusal, the_only}
 use Rattle.def_resolve.specs.Resolve.{first_table, grouping_holds, join_of_condition, join_of_table, joins_of, kinds_refusal, order_kind_refusal, resolve, resolved_agg, resolved_expr, resolved_item, star_form, star_query, what_refusal}
-use Rattle.def_resolve.specs.Star.{Tree, branch_to, directed, grow, is_key_column, is_repeated_number, leads_to, next_branch, spanning, star_of, tree_from, turned, with_branch}
+use Rattle.def_resolve.specs.Star.{Tree, branch_to, directed, grow, is_key_column, is_repeated_number, leads_to, next_branch, spanning, star_of, turned, with_branch}
 use Rattle.wh_text_law.proofs.Stars.{after-refusals, no-refusal}
 
 -- ---- lists

@@ -1,5 +1,5 @@
 -- Texts that are equal up to ORDER BY read as queries that are equal in all but ORDER BY.
-use Rattle.std.proofs.Common.{◌≡◌, ℕ, List, [], ◌∷◌, refl, sym, ◌∙◌, subst₂, true, false, Bool, ◌&&◌, cond, not, take_while, Option, Some, None, codes, ℤ}
+use Rattle.std.proofs.Common.{◌≡◌, ℕ, List, [], ◌∷◌, refl, subst₂, true, false, Bool, ◌&&◌, cond, not, take_while, Option, Some, None, codes, ℤ}
 use Rattle.std.proofs.lemmas.List.Sums.{take_while-cons}
 use Rattle.std.proofs.lemmas.Slice.Eq.{bytes_eq-Decides}
 use Rattle.wh_base.specs.Lists.{is_empty, option_case, same_text, where_true}
@@ -15,7 +15,7 @@ use Rattle.wh_lex.specs.declared.token.TokenKind.{TokenKind}
 use Rattle.wh_lex.specs.declared.token.TokenKind.TheVariants as kinds
 use Rattle.def_grammar.specs.Query.{as_of, from_tables, item, order_key, select, where_conditions}
 use Rattle.def_grammar.specs.Reading.{Rule, gives, listed, optional_list, whole, word, ◌>>=◌, ◌>>◌}
-use Rattle.def_rewriting.specs.Matching.{FullText, NoText, PartialText, TextMatch, before_order, from_on, is_word, match_text, same_kind, same_token, same_tokens}
+use Rattle.def_rewriting.specs.Matching.{FullText, NoText, PartialText, before_order, from_on, match_text, same_kind, same_token, same_tokens}
 use Rattle.wh_text_law.specs.Unordered.{without_order}
 use Rattle.wh_text_law.proofs.Clauses.{as_of-steady, from-steady, groups, groups-steady, havings, havings-steady, items-steady, where-steady}
 use Rattle.wh_text_law.proofs.Steady.{Along, Alike, Blind, Like, Near, Steady, is_order, size, word-blind}

@@ -1,5 +1,5 @@
 -- The star form of a query without its ORDER BY.
-use Rattle.std.proofs.Common.{◌≡◌, ℕ, List, [], ◌∷◌, refl, ap, sym, ◌∙◌, map, Option, Some, None, Result, Ok, Err, option_map}
+use Rattle.std.proofs.Common.{◌≡◌, List, [], ◌∷◌, refl, ap, sym, ◌∙◌, map, Option, Some, None, Result, Ok, option_map}
 use Rattle.wh_base.specs.Lists.{or_refuse, unless, unless_then, ◌>>=◌}
 use Rattle.wh_base.specs.declared.columns.ColRef.{ColRef}
 use Rattle.wh_base.specs.declared.queries.ColName.{ColName}

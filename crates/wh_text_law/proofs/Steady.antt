@@ -279,8 +279,8 @@ along-read n g (Some p) (Some q) h = (h.1, h.2)
 
 pub token-blind : (f : TokenKind → List ℕ → Bool) → f kinds.Name (codes "ORDER") ≡ false → Blind 1 (token_where (λ t. f t.kind t.text))
 token-blind f h = record {
-    along = λ ts us like. along-read (size ts) (λ text. text) (token_where (λ t. f t.kind t.text) ts) (token_where (λ t. f t.kind t.text) us) (token-alike f (λ text. text) h ts us like);
-  }
+  along = λ ts us like. along-read (size ts) (λ text. text) (token_where (λ t. f t.kind t.text) ts) (token_where (λ t. f t.kind t.text) us) (token-alike f (λ text. text) h ts us like);
+}
 
 -- another keyword than ORDER
 pub word-first : (w : List ℕ) → same_text (codes "ORDER") w ≡ false → Blind 1 (word w)
