@@ -1,6 +1,5 @@
 -- What is said of the catalogs that a trace goes through.
-use Rattle.std.specs.List.{find}
-use Rattle.std.specs.Prelude.{◌≡◌, Bool, List, Option, ℕ, ◌++◌, ◌==◌, ◌∷◌, false, list_any, option_and_then, option_map}
+use Rattle.std.specs.Prelude.{◌≡◌, Bool, List, Option, ℕ, ◌++◌, ◌==◌, ◌∷◌, false, option_and_then, option_map}
 use Rattle.wh_base.specs.declared.statements.Command.TheVariants.{Other}
 use Rattle.wh_base.specs.declared.statements.Event.{Event}
 use Rattle.wh_base.specs.declared.statements.RefreshView.{RefreshView}
