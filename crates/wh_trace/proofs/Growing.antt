@@ -1,9 +1,9 @@
 -- The past of the base state, the changes and the touches grow at their new ends, by SCNs above that of before.
 use Rattle.std.proofs.Common.{◌≡◌, ◌∙◌, sym, ap, refl, subst, arith, ℕ, suc, ◌<◌, ◌≤◌, Bool, true, false, List, [], ◌∷◌, ◌++◌, map, nat_le, nat_lt, ◌==◌, ◌&&◌}
-use Rattle.std.specs.List.{All, AllPairs, filter, find, fold, list_any}
+use Rattle.std.specs.List.{All, AllPairs, enumerate_from, filter, find, fold, list_any}
 use Rattle.std.proofs.lemmas.List.{append-nil, append_assoc}
 use Rattle.wh_base.specs.Lists.{option_case}
-use Rattle.wh_base.specs.Tables.{Base, with_table}
+use Rattle.wh_base.specs.Tables.{Base, Table, with_table}
 use Rattle.wh_base.specs.declared.statements.Event.{Event}
 use Rattle.def_effect.specs.Block.{Progress}
 use Rattle.def_effect.specs.Define.{defined}
@@ -128,7 +128,9 @@ commit_grows c p =
     let same : SamePast (after_block c p) (do_dues (after_block c p) p.changes).catalog = dues_past c p in
     grows_based c (do_dues (after_block c p) p.changes).catalog p.base (map (noted (suc c.scn)) p.changes) (commit_touches (suc c.scn) p.base p.changes)
     same.scn same.past same.changes (each_made (λ n. n.scn ≡ suc c.scn) (noted (suc c.scn)) (λ change. refl) p.changes)
-    same.touches (each_flat (λ t. t.touch.scn ≡ suc c.scn) _ (λ q. each_made (λ t. t.touch.scn ≡ suc c.scn) (part_touch (suc c.scn) q.0 false) (λ part. refl) (touched_parts q.1 (changes_in p.changes q.0))) _)
+    same.touches
+    (each_flat (λ (t : Touched). t.touch.scn ≡ suc c.scn) (λ (q : ℕ × Table). map (part_touch (suc c.scn) q.0 false) (touched_parts q.1 (changes_in p.changes q.0)))
+        (λ q. each_made (λ t. t.touch.scn ≡ suc c.scn) (part_touch (suc c.scn) q.0 false) (λ part. refl) (touched_parts q.1 (changes_in p.changes q.0))) (enumerate_from 0 p.base))
 
 move_grows : (s : State) (x : Session) (d : Catalog) → Move s x d → Grows s.catalog d
 move_grows s x d (Stays is) = subst (Grows s.catalog) (sym is) (grows_flat s.catalog s.catalog (omega arith) refl refl refl)

@@ -6,3 +6,8 @@ pub mod Stepping
 pub mod Traces
 pub mod Due
 pub mod Growing
+pub mod Viewing
+pub mod Imaging
+pub mod Tabling
+pub mod Pointing
+pub mod Installing
