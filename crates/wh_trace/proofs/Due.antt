@@ -1,8 +1,7 @@
 -- What the refreshes at a commit leave as it was.
-use Rattle.std.proofs.Common.{◌≡◌, refl, ℕ, Bool, true, List, [], ◌∷◌, Option, None, Some}
+use Rattle.std.proofs.Common.{ℕ, true, List, [], ◌∷◌, Option, None, Some}
 use Rattle.std.specs.List.{filter, fold}
 use Rattle.wh_base.specs.Tables.{TableChange}
-use Rattle.wh_base.specs.declared.replies.Refreshed.TheVariants.{By, Suspended}
 use Rattle.wh_base.specs.declared.statements.Method.{Method}
 use Rattle.wh_base.specs.declared.statements.Method.TheVariants.{Complete, Fast, Force, Partition}
 use Rattle.wh_base.specs.declared.views.Restriction.{Restriction}

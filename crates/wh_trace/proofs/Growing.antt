@@ -1,6 +1,6 @@
 -- The past of the base state, the changes and the touches grow at their new ends, by SCNs above that of before.
-use Rattle.std.proofs.Common.{◌≡◌, ◌∙◌, sym, ap, refl, subst, arith, ℕ, suc, ◌<◌, ◌≤◌, Bool, true, false, List, [], ◌∷◌, ◌++◌, map, nat_le, nat_lt, ◌==◌, ◌&&◌}
-use Rattle.std.specs.List.{All, AllPairs, enumerate_from, filter, find, fold, list_any}
+use Rattle.std.proofs.Common.{◌≡◌, ◌∙◌, sym, ap, refl, subst, arith, ℕ, suc, ◌<◌, ◌≤◌, true, false, cond, List, [], ◌∷◌, ◌++◌, map, Some, nat_le, nat_lt, ◌==◌, ◌&&◌}
+use Rattle.std.specs.List.{enumerate_from, filter, find, fold, list_any}
 use Rattle.std.proofs.lemmas.List.{append-nil, append_assoc}
 use Rattle.wh_base.specs.Lists.{option_case}
 use Rattle.wh_base.specs.Tables.{Base, Table, with_table}
@@ -8,12 +8,12 @@ use Rattle.wh_base.specs.declared.statements.Event.{Event}
 use Rattle.def_effect.specs.Block.{Progress}
 use Rattle.def_effect.specs.Define.{defined}
 use Rattle.def_history.specs.Catalog.{Catalog, Noted, Touched, base_at, base_now, defs_now, empty_catalog}
-use Rattle.def_history.specs.History.{changes_of, maintained, noted_changes, noted_touches, touches_of, within}
+use Rattle.def_history.specs.History.{noted_changes, noted_touches, within}
 use Rattle.def_journal.specs.Committing.{after_block, commit_touches, do_dues, noted, part_touch, touched_parts, changes_in}
 use Rattle.def_journal.specs.Journal.{state_after, state_of}
 use Rattle.def_journal.specs.State.{Session, State, empty_state}
 use Rattle.wh_trace.proofs.Due.{KeepsDue, dues_keep}
-use Rattle.wh_trace.proofs.Listed.{Each, Pairs, all_from, and_false, each_append, each_flat, each_made, each_weaker, filter_behind, find_behind, le_false, pairs_append, pairs_from, pairs_push}
+use Rattle.wh_trace.proofs.Listed.{Each, Pairs, all_from, and_false, each_append, each_flat, each_made, each_weaker, filter_behind, find_behind, le_false, le_true, pairs_append, pairs_from, pairs_level, pairs_push}
 use Rattle.wh_trace.proofs.Moves.{Adds, Alters, Commits, Creates, Declares, Drops, Forgets, Installs, Logs, Move, Purges, Stays, Switches, Withdraws, own}
 use Rattle.wh_trace.proofs.Stepping.{moves}
 use Rattle.wh_trace.proofs.Traces.{state_more}
@@ -23,6 +23,12 @@ use Rattle.wh_trace.specs.Reached.{catalog_of}
 -- above one SCN and at most another
 abbrev Between : ℕ → ℕ → ℕ → Type 0
 Between m n k = (m < k) × (k ≤ n)
+
+abbrev IsNotLater : Noted → Noted → Type 0
+IsNotLater m n = m.scn ≤ n.scn
+
+abbrev IsNotTouchedLater : Touched → Touched → Type 0
+IsNotTouchedLater t u = t.touch.scn ≤ u.touch.scn
 
 abbrev IsNewer : ℕ × Base → ℕ × Base → Type 0
 IsNewer p q = q.0 < p.0
@@ -36,9 +42,11 @@ pub record Grows (c d : Catalog) : Type 0 where
   pub news : List Noted
   pub changes : d.changes ≡ c.changes ++ news
   pub news_recent : Each (λ n. Between c.scn d.scn n.scn) news
+  pub rising : Pairs IsNotLater news
   pub touched : List Touched
   pub touches : d.touches ≡ c.touches ++ touched
   pub touched_recent : Each (λ t. Between c.scn d.scn t.touch.scn) touched
+  pub touched_rising : Pairs IsNotTouchedLater touched
 
 -- another catalog with the same past
 pub record SamePast (c d : Catalog) : Type 0 where
@@ -58,9 +66,11 @@ grows_flat c d scn past changes touches =
       news = [];
       changes = changes ∙ sym (append-nil c.changes);
       news_recent = tt;
+      rising = tt;
       touched = [];
       touches = touches ∙ sym (append-nil c.touches);
       touched_recent = tt;
+      touched_rising = tt;
     }
 
 -- one base state more, with changes and touches, at the next SCN
@@ -76,9 +86,11 @@ grows_based c d base news touched scn past changes news_at touches touched_at =
       news = news;
       changes = changes;
       news_recent = each_weaker (λ n. n.scn ≡ suc c.scn) (λ n. Between c.scn d.scn n.scn) (λ n at. (omega arith, omega arith)) news news_at;
+      rising = pairs_level (λ (n : Noted). n.scn) (suc c.scn) news news_at;
       touched = touched;
       touches = touches;
       touched_recent = each_weaker (λ t. t.touch.scn ≡ suc c.scn) (λ t. Between c.scn d.scn t.touch.scn) (λ t at. (omega arith, omega arith)) touched touched_at;
+      touched_rising = pairs_level (λ (t : Touched). t.touch.scn) (suc c.scn) touched touched_at;
     }
 
 grows_on : (c d e : Catalog) → Grows c d → Grows d e → Grows c e
@@ -91,7 +103,7 @@ grows_on c d e h k =
       past = k.past ∙ ap (λ past. k.newer ++ past) h.past ∙ sym (append_assoc k.newer h.newer c.past);
       falls = pairs_append IsNewer k.newer h.newer k.falls h.falls
           (each_weaker (λ p. Between d.scn e.scn p.0) (λ p. Each (IsNewer p) h.newer)
-              (λ p above. each_weaker (λ q. Between c.scn d.scn q.0) (IsNewer p) (λ q below. omega (arith, above.0, below.1)) h.newer h.recent) k.newer k.recent);
+          (λ p above. each_weaker (λ q. Between c.scn d.scn q.0) (IsNewer p) (λ q below. omega (arith, above.0, below.1)) h.newer h.recent) k.newer k.recent);
       recent = each_append (λ p. Between c.scn e.scn p.0) k.newer h.newer
           (each_weaker (λ p. Between d.scn e.scn p.0) (λ p. Between c.scn e.scn p.0) (λ p b. (omega (arith, b.0), b.1)) k.newer k.recent)
           (each_weaker (λ p. Between c.scn d.scn p.0) (λ p. Between c.scn e.scn p.0) (λ p b. (b.0, omega (arith, b.1))) h.newer h.recent);
@@ -100,11 +112,17 @@ grows_on c d e h k =
       news_recent = each_append (λ n. Between c.scn e.scn n.scn) h.news k.news
           (each_weaker (λ n. Between c.scn d.scn n.scn) (λ n. Between c.scn e.scn n.scn) (λ n b. (b.0, omega (arith, b.1))) h.news h.news_recent)
           (each_weaker (λ n. Between d.scn e.scn n.scn) (λ n. Between c.scn e.scn n.scn) (λ n b. (omega (arith, b.0), b.1)) k.news k.news_recent);
+      rising = pairs_append IsNotLater h.news k.news h.rising k.rising
+          (each_weaker (λ n. Between c.scn d.scn n.scn) (λ n. Each (IsNotLater n) k.news)
+          (λ n below. each_weaker (λ m. Between d.scn e.scn m.scn) (IsNotLater n) (λ m above. omega (arith, above.0, below.1)) k.news k.news_recent) h.news h.news_recent);
       touched = h.touched ++ k.touched;
       touches = k.touches ∙ ap (λ touches. touches ++ k.touched) h.touches ∙ append_assoc c.touches h.touched k.touched;
       touched_recent = each_append (λ t. Between c.scn e.scn t.touch.scn) h.touched k.touched
           (each_weaker (λ t. Between c.scn d.scn t.touch.scn) (λ t. Between c.scn e.scn t.touch.scn) (λ t b. (b.0, omega (arith, b.1))) h.touched h.touched_recent)
           (each_weaker (λ t. Between d.scn e.scn t.touch.scn) (λ t. Between c.scn e.scn t.touch.scn) (λ t b. (omega (arith, b.0), b.1)) k.touched k.touched_recent);
+      touched_rising = pairs_append IsNotTouchedLater h.touched k.touched h.touched_rising k.touched_rising
+          (each_weaker (λ t. Between c.scn d.scn t.touch.scn) (λ t. Each (IsNotTouchedLater t) k.touched)
+          (λ t below. each_weaker (λ u. Between d.scn e.scn u.touch.scn) (IsNotTouchedLater t) (λ u above. omega (arith, above.0, below.1)) k.touched k.touched_recent) h.touched h.touched_recent);
     }
 
 -- ---- what an event does
@@ -130,7 +148,7 @@ commit_grows c p =
     same.scn same.past same.changes (each_made (λ n. n.scn ≡ suc c.scn) (noted (suc c.scn)) (λ change. refl) p.changes)
     same.touches
     (each_flat (λ (t : Touched). t.touch.scn ≡ suc c.scn) (λ (q : ℕ × Table). map (part_touch (suc c.scn) q.0 false) (touched_parts q.1 (changes_in p.changes q.0)))
-        (λ q. each_made (λ t. t.touch.scn ≡ suc c.scn) (part_touch (suc c.scn) q.0 false) (λ part. refl) (touched_parts q.1 (changes_in p.changes q.0))) (enumerate_from 0 p.base))
+    (λ q. each_made (λ t. t.touch.scn ≡ suc c.scn) (part_touch (suc c.scn) q.0 false) (λ part. refl) (touched_parts q.1 (changes_in p.changes q.0))) (enumerate_from 0 p.base))
 
 move_grows : (s : State) (x : Session) (d : Catalog) → Move s x d → Grows s.catalog d
 move_grows s x d (Stays is) = subst (Grows s.catalog) (sym is) (grows_flat s.catalog s.catalog (omega arith) refl refl refl)
@@ -168,23 +186,23 @@ pub base_stays : (c d : Catalog) → Grows c d → (p : ℕ) → p ≤ c.scn →
 base_stays c d g p low =
     ap (λ past. option_case (find (λ q. nat_le q.0 p) past) [] (λ q. q.1)) g.past
     ∙ ap (λ o. option_case o [] (λ q. q.1))
-        (find_behind (λ q. nat_le q.0 p) g.newer c.past
-            (each_weaker (λ q. Between c.scn d.scn q.0) (λ q. nat_le q.0 p ≡ false) (λ q b. le_false q.0 p (omega (arith, b.0))) g.newer g.recent))
+    (find_behind (λ q. nat_le q.0 p) g.newer c.past
+    (each_weaker (λ q. Between c.scn d.scn q.0) (λ q. nat_le q.0 p ≡ false) (λ q b. le_false q.0 p (omega (arith, b.0))) g.newer g.recent))
 
 late : (c d : Catalog) (table from p scn k : ℕ) → p ≤ c.scn → Between c.scn d.scn scn → ((k == table) && within from p scn) ≡ false
 late c d table from p scn k low b = and_false (k == table) (within from p scn) (and_false (nat_lt from scn) (nat_le scn p) (le_false scn p (omega (arith, b.0))))
 
-noted_stay : (c d : Catalog) → Grows c d → (table from p : ℕ) → p ≤ c.scn → noted_changes d table from p ≡ noted_changes c table from p
+pub noted_stay : (c d : Catalog) → Grows c d → (table from p : ℕ) → p ≤ c.scn → noted_changes d table from p ≡ noted_changes c table from p
 noted_stay c d g table from p low =
     ap (λ changes. filter (λ n. (n.table == table) && within from p n.scn) changes) g.changes
     ∙ filter_behind (λ n. (n.table == table) && within from p n.scn) c.changes g.news
-        (each_weaker (λ n. Between c.scn d.scn n.scn) (λ n. ((n.table == table) && within from p n.scn) ≡ false) (λ n b. late c d table from p n.scn n.table low b) g.news g.news_recent)
+    (each_weaker (λ n. Between c.scn d.scn n.scn) (λ n. ((n.table == table) && within from p n.scn) ≡ false) (λ n b. late c d table from p n.scn n.table low b) g.news g.news_recent)
 
-touched_stay : (c d : Catalog) → Grows c d → (table from p : ℕ) → p ≤ c.scn → noted_touches d table from p ≡ noted_touches c table from p
+pub touched_stay : (c d : Catalog) → Grows c d → (table from p : ℕ) → p ≤ c.scn → noted_touches d table from p ≡ noted_touches c table from p
 touched_stay c d g table from p low =
     ap (λ touches. filter (λ t. (t.table == table) && within from p t.touch.scn) touches) g.touches
     ∙ filter_behind (λ t. (t.table == table) && within from p t.touch.scn) c.touches g.touched
-        (each_weaker (λ t. Between c.scn d.scn t.touch.scn) (λ t. ((t.table == table) && within from p t.touch.scn) ≡ false) (λ t b. late c d table from p t.touch.scn t.table low b) g.touched g.touched_recent)
+    (each_weaker (λ t. Between c.scn d.scn t.touch.scn) (λ t. ((t.table == table) && within from p t.touch.scn) ≡ false) (λ t b. late c d table from p t.touch.scn t.table low b) g.touched g.touched_recent)
 
 -- no base state began above the SCN
 pub past_bounded : (d : Catalog) → Grows empty_catalog d → Each (λ p. p.0 ≤ d.scn) d.past
@@ -205,6 +223,24 @@ touches_bounded : (d : Catalog) → Grows empty_catalog d → Each (λ t. t.touc
 touches_bounded d g =
     subst (Each (λ t. t.touch.scn ≤ d.scn)) (sym g.touches) (each_weaker (λ t. Between 0 d.scn t.touch.scn) (λ t. t.touch.scn ≤ d.scn) (λ t b. b.1) g.touched g.touched_recent)
 
+-- the first of the past is the base state of now
+newest_of : (d : Catalog) → Each (λ p. p.0 ≤ d.scn) d.past → (past : List (ℕ × Base)) → d.past ≡ past → (past ≡ [] → ⊥)
+    → (scn : ℕ) × (older : List (ℕ × Base)) × (d.past ≡ (scn, base_now d) ∷ older)
+newest_of d bounded [] is some = absurd (some refl)
+newest_of d bounded (p ∷ older) is some =
+    let low : p.0 ≤ d.scn = (subst (Each (λ p. p.0 ≤ d.scn)) is bounded).0 in
+    let base : base_now d ≡ p.1 =
+    ap (λ past. option_case (find (λ q. nat_le q.0 d.scn) past) [] (λ q. q.1)) is
+    ∙ ap (λ b. option_case (cond b (Some p) (find (λ q. nat_le q.0 d.scn) older)) [] (λ q. q.1)) (le_true p.0 d.scn low) in
+    (p.0, older, is ∙ ap (λ base. (p.0, base) ∷ older) (sym base))
+
+not_empty : (front : List (ℕ × Base)) (p : ℕ × Base) → front ++ p ∷ [] ≡ [] → ⊥
+not_empty [] p e = cc
+not_empty (q ∷ front) p e = cc
+
+newest : (d : Catalog) → Grows empty_catalog d → (scn : ℕ) × (older : List (ℕ × Base)) × (d.past ≡ (scn, base_now d) ∷ older)
+newest d g = newest_of d (past_bounded d g) d.past refl (λ none. not_empty g.newer (0, []) (sym g.past ∙ none))
+
 pub base_laws : BaseLaws
 base_laws =
     record {
@@ -212,6 +248,7 @@ base_laws =
       stays = λ trace more. base_stays (catalog_of trace) (catalog_of (trace ++ more)) (trace_grows trace more);
       falls = λ trace. pairs_from IsNewer (catalog_of trace).past (past_falls (catalog_of trace) (reached trace));
       bounded = λ trace. all_from (λ p. p.0 ≤ (catalog_of trace).scn) (catalog_of trace).past (past_bounded (catalog_of trace) (reached trace));
+      newest = λ trace. newest (catalog_of trace) (reached trace);
     }
 
 pub change_laws : ChangeLaws
@@ -220,6 +257,8 @@ change_laws =
       changes = λ trace more table from p low. ap (λ ns. map (λ n. n.change) ns) (noted_stay (catalog_of trace) (catalog_of (trace ++ more)) (trace_grows trace more) table from p low);
       touches = λ trace more table from p low. ap (λ ts. map (λ t. t.touch) ts) (touched_stay (catalog_of trace) (catalog_of (trace ++ more)) (trace_grows trace more) table from p low);
       maintenance = λ trace more table from p low. ap (λ ts. list_any (λ t. t.by_maintenance) ts) (touched_stay (catalog_of trace) (catalog_of (trace ++ more)) (trace_grows trace more) table from p low);
+      rising = λ trace. pairs_from IsNotLater (catalog_of trace).changes (subst (Pairs IsNotLater) (sym (reached trace).changes) (reached trace).rising);
+      touched_rising = λ trace. pairs_from IsNotTouchedLater (catalog_of trace).touches (subst (Pairs IsNotTouchedLater) (sym (reached trace).touches) (reached trace).touched_rising);
       bounded = λ trace. all_from (λ n. n.scn ≤ (catalog_of trace).scn) (catalog_of trace).changes (changes_bounded (catalog_of trace) (reached trace));
       touched = λ trace. all_from (λ t. t.touch.scn ≤ (catalog_of trace).scn) (catalog_of trace).touches (touches_bounded (catalog_of trace) (reached trace));
     }

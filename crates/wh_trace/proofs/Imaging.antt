@@ -1,5 +1,5 @@
 -- What a session keeps was the catalog of a front of the trace.
-use Rattle.std.proofs.Common.{◌≡◌, ◌∙◌, sym, ap, refl, subst, ℕ, Bool, true, false, List, [], ◌∷◌, ◌++◌, Option, None, Some, ◌==◌}
+use Rattle.std.proofs.Common.{◌≡◌, ◌∙◌, sym, ap, refl, subst, ℕ, Bool, true, false, List, [], ◌∷◌, ◌++◌, None, Some}
 use Rattle.std.proofs.lemmas.Bool.{eqb-true}
 use Rattle.std.proofs.lemmas.List.{append_assoc}
 use Rattle.wh_base.specs.declared.statements.Event.{Event}
@@ -9,7 +9,6 @@ use Rattle.def_journal.specs.State.{Begun, Session, State, session_of}
 use Rattle.wh_trace.proofs.Moves.{Begins, Closes, Ends, Keeps, Opens, Turn, own}
 use Rattle.wh_trace.proofs.Stepping.{moves}
 use Rattle.wh_trace.proofs.Traces.{by_events, state_push}
-use Rattle.wh_trace.specs.Laws.{ImageLaws}
 use Rattle.wh_trace.specs.Reached.{HasBegun, HasOpened, begun_over, catalog_of, is_of}
 
 none_is_some : {A : Type 0} (x : A) → None ≡ Some x → ⊥
@@ -63,12 +62,13 @@ begun_more trace e h n b found = by (is_of n e) refl
   where
     after : (session_of (state_after (state_of trace) e) n).begun ≡ Some b
     after = subst (λ (s : State). (session_of s n).begun ≡ Some b) (state_push trace e) found
+
     by : (own : Bool) → is_of n e ≡ own → HasBegun (trace ++ e ∷ []) n b
     by true is =
         let same : e.entry.session ≡ n = eqb-true e.entry.session n is in
         subst (λ k. HasBegun (trace ++ e ∷ []) k b) same
         (own_begun trace e b (session_of (state_after (state_of trace) e) e.entry.session) (h e.entry.session b) (moves (state_of trace) e).session
-            (subst (λ k. (session_of (state_after (state_of trace) e) k).begun ≡ Some b) (sym same) after))
+        (subst (λ k. (session_of (state_after (state_of trace) e) k).begun ≡ Some b) (sym same) after))
     by false is = begun_longer trace e n b (h n b (sym (ap (λ (x : Session). x.begun) ((moves (state_of trace) e).others n is)) ∙ after))
 
 pub all_begun : (trace : List Event) (n : ℕ) (b : Begun) → (session_of (state_of trace) n).begun ≡ Some b → HasBegun trace n b
@@ -111,16 +111,14 @@ opened_more trace e h n image found = by (is_of n e) refl
   where
     after : (session_of (state_after (state_of trace) e) n).reading ≡ Some image
     after = subst (λ (s : State). (session_of s n).reading ≡ Some image) (state_push trace e) found
+
     by : (own : Bool) → is_of n e ≡ own → HasOpened (trace ++ e ∷ []) n image
     by true is =
         let same : e.entry.session ≡ n = eqb-true e.entry.session n is in
         subst (λ k. HasOpened (trace ++ e ∷ []) k image) same
         (own_opened trace e image (session_of (state_after (state_of trace) e) e.entry.session) (h e.entry.session image) (moves (state_of trace) e).session
-            (subst (λ k. (session_of (state_after (state_of trace) e) k).reading ≡ Some image) (sym same) after))
+        (subst (λ k. (session_of (state_after (state_of trace) e) k).reading ≡ Some image) (sym same) after))
     by false is = opened_longer trace e n image (h n image (sym (ap (λ (x : Session). x.reading) ((moves (state_of trace) e).others n is)) ∙ after))
 
 pub all_opened : (trace : List Event) (n : ℕ) (image : Catalog) → (session_of (state_of trace) n).reading ≡ Some image → HasOpened trace n image
 all_opened = by_events (λ trace. (n : ℕ) (image : Catalog) → (session_of (state_of trace) n).reading ≡ Some image → HasOpened trace n image) (λ n image found. absurd (none_is_some image found)) opened_more
-
-pub image_laws : ImageLaws
-image_laws = record { begun = all_begun; opened = all_opened }

@@ -9,5 +9,6 @@ pub mod Growing
 pub mod Viewing
 pub mod Imaging
 pub mod Tabling
+pub mod Preceding
 pub mod Pointing
 pub mod Installing

@@ -1,8 +1,8 @@
 -- Facts on lists by recursion, and what is found in lists that grow, lose items or have some changed.
-use Rattle.std.proofs.Common.{◌≡◌, ◌≢◌, ◌∙◌, sym, ap, refl, subst, arith, ℕ, ◌<◌, ◌≤◌, Bool, true, false, cond, not, List, [], ◌∷◌, ◌++◌, map, length, Option, None, Some, nat_le, nat_lt, ◌==◌, ◌&&◌, true≢false}
-use Rattle.std.specs.List.{All, AllPairs, filter, find, flat_map, fold, list_any}
+use Rattle.std.proofs.Common.{◌≡◌, ◌∙◌, sym, ap, refl, subst, arith, ℕ, ◌<◌, ◌≤◌, Bool, true, false, cond, not, List, [], ◌∷◌, ◌++◌, map, None, Some, nat_le, ◌==◌, ◌&&◌}
+use Rattle.std.specs.List.{All, AllPairs, filter, find, flat_map}
 use Rattle.std.specs.Prelude.{option_map}
-use Rattle.std.proofs.lemmas.Bool.{eqb-true, eq-eqb, le-leb, lt-leb}
+use Rattle.std.proofs.lemmas.Bool.{eqb-true, le-leb, lt-leb}
 use Rattle.std.proofs.lemmas.List.Elements.{All-cons, All-nil}
 use Rattle.std.proofs.lemmas.List.Kept.{AllPairs-cons}
 
@@ -96,6 +96,22 @@ pub pairs_push : {A : Type 0} (R : A → A → Type 0) (xs : List A) (y : A) →
 pairs_push R [] y h k = (tt, tt)
 pairs_push R (x ∷ xs) y h k = (each_append (R x) xs (y ∷ []) h.0 (k.0, tt), pairs_push R xs y h.1 k.1)
 
+-- items of one level never fall
+pub pairs_level : {A : Type 0} (level : A → ℕ) (n : ℕ) (xs : List A) → Each (λ x. level x ≡ n) xs → Pairs (λ x y. level x ≤ level y) xs
+pairs_level level n [] h = tt
+pairs_level level n (x ∷ xs) h =
+    let first : level x ≡ n = h.0 in
+    (each_weaker (λ y. level y ≡ n) (λ y. level x ≤ level y) (λ y same. omega arith) xs h.1, pairs_level level n xs h.1)
+
+-- what holds of each item holds of one that is found
+pub each_found : {A : Type 0} (P : A → Type 0) (p : A → Bool) (xs : List A) (x : A) → Each P xs → find p xs ≡ Some x → P x
+each_found P p [] x h e = absurd (cc)
+each_found P p (y ∷ xs) x h e = by (p y) e (each_found P p xs x h.1)
+  where
+    by : (b : Bool) → cond b (Some y) (find p xs) ≡ Some x → (find p xs ≡ Some x → P x) → P x
+    by true found more = let same : y ≡ x = cc in subst P same h.0
+    by false found more = more found
+
 -- ---- what is found
 
 -- numbers of items, and the test for one
@@ -132,7 +148,7 @@ module _ {A : Type 0} (key : A → ℕ) where
       by : (b : Bool) → (m == n) ≡ b → find (keyed n) xs ≡ Some w
       by true e =
           let gone : find (keyed n) (filter (λ y. not (keyed m y)) xs) ≡ None =
-              subst (λ k. find (keyed n) (filter (λ y. not (keyed k y)) xs) ≡ None) (sym (eqb-true m n e)) (find_taken n xs) in
+          subst (λ k. find (keyed n) (filter (λ y. not (keyed k y)) xs) ≡ None) (sym (eqb-true m n e)) (find_taken n xs) in
           cc
       by false e = sym (find_without m n xs e) ∙ found
 

@@ -1,5 +1,5 @@
 -- What one event may make of the catalog and of its session. Each law is derived from these cases.
-use Rattle.std.proofs.Common.{◌≡◌, ◌∙◌, sym, ap, refl, subst, ℕ, Bool, false, true, not, List, [], ◌∷◌, ◌++◌, Option, None, Some, ◌==◌}
+use Rattle.std.proofs.Common.{◌≡◌, ◌∙◌, sym, ap, refl, subst, ℕ, false, true, not, List, [], ◌∷◌, ◌++◌, None, Some, ◌==◌}
 use Rattle.std.specs.List.{filter}
 use Rattle.std.specs.Prelude.{Ok}
 use Rattle.wh_base.specs.Lists.{has_text, same_text}

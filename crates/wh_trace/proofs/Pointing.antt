@@ -1,10 +1,9 @@
 -- The points of the views, and the laws of views.
-use Rattle.std.proofs.Common.{◌≡◌, ◌≢◌, ◌∙◌, sym, ap, refl, subst, arith, ℕ, suc, ◌<◌, ◌≤◌, Bool, true, false, cond, not, List, [], ◌∷◌, ◌++◌, map, Option, None, Some, ◌==◌}
-use Rattle.std.specs.List.{All, AllPairs, filter}
+use Rattle.std.proofs.Common.{◌≡◌, ◌≢◌, ◌∙◌, sym, ap, subst, arith, ℕ, suc, ◌≤◌, Bool, true, false, cond, not, List, [], ◌∷◌, ◌++◌, map, None, Some, ◌==◌}
 use Rattle.std.specs.Option.{ForSome}
 use Rattle.wh_base.specs.Lists.{where_true}
 use Rattle.wh_base.specs.declared.statements.Event.{Event}
-use Rattle.def_history.specs.Catalog.{Catalog, View, defs_now, names_taken, view_numbered}
+use Rattle.def_history.specs.Catalog.{Catalog, View, defs_now, names_taken}
 use Rattle.def_journal.specs.Committing.{after_block}
 use Rattle.def_journal.specs.Journal.{state_after, state_of}
 use Rattle.def_journal.specs.Refreshing.{change_view, refreshed_to}
@@ -86,10 +85,10 @@ image_low : (trace : List Event) (n : ℕ) → IsEarlier (state_of trace) (sessi
 image_low trace n b found =
     let h : HasBegun trace n b = all_begun trace n b found in
     let low : (catalog_of h.front).scn ≤ (catalog_of trace).scn =
-        subst (λ t. (catalog_of h.front).scn ≤ (catalog_of t).scn) (sym h.is) (trace_grows h.front (h.event ∷ h.rest)).scn in
+    subst (λ t. (catalog_of h.front).scn ≤ (catalog_of t).scn) (sym h.is) (trace_grows h.front (h.event ∷ h.rest)).scn in
     subst (λ n. n ≤ (catalog_of trace).scn) (sym (ap (λ (b : Begun). b.image.scn) h.kept)) low
 
-trace_pointed : (trace : List Event) → Pointed (catalog_of trace)
+pub trace_pointed : (trace : List Event) → Pointed (catalog_of trace)
 trace_pointed = by_events (λ trace. Pointed (catalog_of trace)) tt step
   where
     step : (front : List Event) (e : Event) → Pointed (catalog_of front) → Pointed (catalog_of (front ++ e ∷ []))
@@ -105,7 +104,7 @@ views_differ : (c : Catalog) → Pairs (λ a b. a ≢ b) (names_taken c) → Pai
 views_differ c h =
     pairs_unmap (λ a b. a ≢ b) (λ (v : View). v.def.name) c.views
     (pairs_left (λ a b. a ≢ b) (map (λ v. v.def.name) c.views) (map (λ d. d.name) c.dimensions)
-        (pairs_right (λ a b. a ≢ b) (map (λ d. d.name) (defs_now c)) (map (λ v. v.def.name) c.views ++ map (λ d. d.name) c.dimensions) h))
+    (pairs_right (λ a b. a ≢ b) (map (λ d. d.name) (defs_now c)) (map (λ v. v.def.name) c.views ++ map (λ d. d.name) c.dimensions) h))
 
 pub view_laws : ViewLaws
 view_laws =

@@ -1,6 +1,6 @@
 -- Every event leaves one of the cases of Moves.
-use Rattle.std.proofs.Common.{◌≡◌, ◌∙◌, sym, ap, refl, subst, ℕ, Bool, false, true, not, cond, List, [], ◌∷◌, ◌++◌, length, Option, None, Some, nat_le, ◌==◌, suc}
-use Rattle.std.specs.List.{filter, filter_map}
+use Rattle.std.proofs.Common.{◌≡◌, refl, ℕ, Bool, true, not, cond, List, [], ◌∷◌, ◌++◌, length, Option, None, Some, nat_le, ◌==◌}
+use Rattle.std.specs.List.{filter}
 use Rattle.std.specs.Prelude.{Err, Ok, Result, int_lt, max, nat_abs, pos, ◌-◌}
 use Rattle.wh_base.specs.Lists.{change_where, first_some, has_text, option_case, or_refuse, same_text, unless, where_true, ◌>>=◌}
 use Rattle.wh_base.specs.Tables.{Base, Table, def_at, table_at}
@@ -47,11 +47,11 @@ use Rattle.def_journal.specs.Committing.{commit, commit_result}
 use Rattle.def_journal.specs.Explaining.{explain_view, show_log, show_view, shown, the_dimension, the_log, the_view, validated}
 use Rattle.def_journal.specs.Journal.{state_after}
 use Rattle.def_journal.specs.Refreshing.{Computed, asked_method, begin_refresh, begun_view, change_view, computed, ended, install_begun, install_computed, install_into, install_refresh, overtaken, refreshed_to}
-use Rattle.def_journal.specs.State.{Begun, Session, State, Step, done_or_refused, image_of, next_scn, only_reads, refused, replied, with_base, with_catalog, with_session}
+use Rattle.def_journal.specs.State.{Begun, Session, State, Step, done_or_refused, image_of, next_scn, only_reads, refused, replied, with_base, with_catalog}
 use Rattle.def_resolve.specs.Resolve.{resolve}
-use Rattle.def_journal.specs.Statements.{Outcome, altered, build_reads, change_named_view, create_dimension, create_view, fast_form_refusal, new_log, new_log_refusal, new_view, purged_or_refused, switched, unread, unregistered, with_view}
-use Rattle.def_journal.specs.Steps.{changing_step, dimension_change, log_change, other_step, purge_change, session_done, setting_step, show_step, statement_step, step, table_change, view_change}
-use Rattle.wh_trace.proofs.Moves.{Adds, Alters, Begins, Closes, Commits, Creates, Declares, Drops, Ends, Forgets, Installs, Keeps, KeepsView, Logs, Move, Moved, Opens, Purges, Stays, Switches, Turn, Withdraws, leaves, leaves_both, own, puts, stays}
+use Rattle.def_journal.specs.Statements.{Outcome, altered, build_reads, change_named_view, fast_form_refusal, new_log, new_log_refusal, new_view, purged_or_refused, switched, unread, unregistered, with_view}
+use Rattle.def_journal.specs.Steps.{dimension_change, log_change, other_step, purge_change, session_done, show_step, statement_step, step, table_change, view_change}
+use Rattle.wh_trace.proofs.Moves.{Adds, Alters, Begins, Closes, Commits, Creates, Declares, Drops, Ends, Forgets, Installs, Keeps, KeepsView, Logs, Move, Moved, Opens, Purges, Switches, Withdraws, leaves, leaves_both, own, puts, stays}
 use Rattle.wh_trace.proofs.Outcomes.{EachOk, bind_ok, cond_step, first_none, ok_holds, option_step, unless_bind, unless_ok, unless_then_ok}
 
 -- the catalog of an outcome
@@ -89,11 +89,11 @@ table_leads s x (CreateTable t) =
 table_leads s x (AlterTable t) =
     let c : Catalog = s.catalog in
     let keeps : EachOk (KeepsDef (base_now c)) (alter_table (base_now c) t) =
-        bind_ok (KeepsDef (base_now c)) (the_table (base_now c) t.table)
-        (λ n. alter_part (base_now c) n (table_at (base_now c) n) t.change >>= (λ a. Ok (n, a)))
-        (λ n e. bind_ok (KeepsDef (base_now c)) (alter_part (base_now c) n (table_at (base_now c) n) t.change) (λ a. Ok (n, a))
-            (λ a same. ok_holds (HasDef (table_at (base_now c) n)) (alter_part (base_now c) n (table_at (base_now c) n) t.change) a
-                (part_keeps (base_now c) n (table_at (base_now c) n) t.change) same)) in
+    bind_ok (KeepsDef (base_now c)) (the_table (base_now c) t.table)
+    (λ n. alter_part (base_now c) n (table_at (base_now c) n) t.change >>= (λ a. Ok (n, a)))
+    (λ n e. bind_ok (KeepsDef (base_now c)) (alter_part (base_now c) n (table_at (base_now c) n) t.change) (λ a. Ok (n, a))
+    (λ a same. ok_holds (HasDef (table_at (base_now c) n)) (alter_part (base_now c) n (table_at (base_now c) n) t.change) a
+    (part_keeps (base_now c) n (table_at (base_now c) n) t.change) same)) in
     bind_ok (Left s x) (alter_table (base_now c) t) (λ a. unread (altered c a.0 a.1))
     (λ a same. Alters a.0 a.1 (ok_holds (KeepsDef (base_now c)) (alter_table (base_now c) t) a keeps same) refl)
 
@@ -105,7 +105,7 @@ log_leads s x (CreateLog l) =
     bind_ok (Left s x) (the_table (base_now c) l.table)
     (λ n. unless (new_log_refusal c n (def_at (defs_now c) n) l) (record (next_scn c) { logs = c.logs ++ new_log c n (def_at (defs_now c) n) l ∷ [] }, 0))
     (λ n e. unless_ok (Left s x) (new_log_refusal c n (def_at (defs_now c) n) l) (record (next_scn c) { logs = c.logs ++ new_log c n (def_at (defs_now c) n) l ∷ [] }, 0)
-        (λ none. Logs (c.logs ++ new_log c n (def_at (defs_now c) n) l ∷ []) refl))
+    (λ none. Logs (c.logs ++ new_log c n (def_at (defs_now c) n) l ∷ []) refl))
 log_leads s x (DropLog name) =
     let c : Catalog = s.catalog in
     bind_ok (Left s x) (the_log c name) (λ l. unread (record (next_scn c) { logs = filter (λ k. not (k.table == l.table)) c.logs }))
@@ -146,8 +146,8 @@ view_leads s x (CreateView v) =
     (first_some (where_true (has_text (names_taken c) v.name) (NameTaken v.name) ∷ where_true (nat_le max_objects (length c.views)) (TooManyObjects counted.Views) ∷ []))
     (resolve (defs_now c) v.asked.query >>= (λ q. made c v q))
     (λ none. bind_ok (Left s x) (resolve (defs_now c) v.asked.query) (λ q. made c v q)
-        (λ q e. unless_ok (Left s x) (fast_form_refusal c (new_view c v q)) (with_view c (new_view c v q), build_reads c (new_view c v q))
-            (λ fit. Adds v q (first_none (has_text (names_taken c) v.name) (NameTaken v.name) _ none) refl)))
+    (λ q e. unless_ok (Left s x) (fast_form_refusal c (new_view c v q)) (with_view c (new_view c v q), build_reads c (new_view c v q))
+    (λ fit. Adds v q (first_none (has_text (names_taken c) v.name) (NameTaken v.name) _ none) refl)))
 view_leads s x (AlterView v) = named_leads s x v.name (switched v.rewrite) (switched_keeps v.rewrite)
 view_leads s x (DropView name) =
     let c : Catalog = s.catalog in
@@ -237,12 +237,12 @@ install_moves s e r =
     (option_case (own s e).begun (refused s 0 (NoSuchObject r.name)) (install_begun (ended s (own s e)) r))
     (λ reads. ended_moves s e)
     (λ writes. option_step (Moved s e) (own s e).begun (refused s 0 (NoSuchObject r.name)) (install_begun (ended s (own s e)) r) (stays s e)
-        (λ b begun. begun_holds (Moved s e) (ended s (own s e)) b
-            (record {
-              stays = ended_moves s e;
-              installs = λ n. leaves_both s e (record (own s e) { begun = None }) (change_view n (refreshed_to b.image.scn) s.catalog) refl (Ends refl) (Installs n b begun refl);
-            })
-            r))
+    (λ b begun. begun_holds (Moved s e) (ended s (own s e)) b
+    (record {
+      stays = ended_moves s e;
+      installs = λ n. leaves_both s e (record (own s e) { begun = None }) (change_view n (refreshed_to b.image.scn) s.catalog) refl (Ends refl) (Installs n b begun refl);
+    })
+    r))
 
 begin_moves : (s : State) (e : Event) (r : RefreshView) → e.command ≡ commands.Other (about.Refresh r) → (e.entry.part == 1) ≡ true → Moved s e (begin_refresh s (own s e) r)
 begin_moves s e r is part = puts s e _ refl (Begins r is part refl)

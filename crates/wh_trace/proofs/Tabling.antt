@@ -1,33 +1,33 @@
 -- Tables only come, and the names of all objects differ.
-use Rattle.std.proofs.Common.{◌≡◌, ◌≢◌, ◌∙◌, sym, ap, refl, subst, arith, ℕ, zero, suc, ◌+◌, ◌<◌, ◌≤◌, Bool, true, false, cond, not, List, [], ◌∷◌, ◌++◌, map, Option, None, Some, nat_le, ◌==◌, ◌||◌, true≢false}
-use Rattle.std.specs.List.{AllPairs, filter, find, fold, list_any}
-use Rattle.std.specs.Prelude.{Err, Ok, Result, slice_get, unwrap_or}
+use Rattle.std.proofs.Common.{◌≡◌, ◌≢◌, ◌∙◌, sym, ap, refl, subst, arith, ℕ, zero, suc, ◌+◌, ◌≤◌, Bool, true, false, cond, not, List, [], ◌∷◌, ◌++◌, map, Option, None, Some, nat_le, ◌==◌, ◌||◌, true≢false}
+use Rattle.std.specs.List.{filter, find}
+use Rattle.std.specs.Prelude.{Err, Ok, Result}
 use Rattle.std.proofs.lemmas.List.{append-nil, append_assoc, map-append}
 use Rattle.std.proofs.lemmas.Slice.Eq.{bytes_eq-Decides}
-use Rattle.wh_base.specs.Lists.{first_of, first_some, has_text, option_case, same_text, ◌>>=◌}
-use Rattle.wh_base.specs.Tables.{Base, Table, TableChange, defs_of, empty_table, table_after, table_at, with_table}
+use Rattle.wh_base.specs.Lists.{first_of, first_some, has_text, option_case, same_text}
+use Rattle.wh_base.specs.Tables.{Base, Table, TableChange, defs_of, table_after, table_at, with_table}
 use Rattle.wh_base.specs.declared.replies.Refusal.{Refusal}
 use Rattle.wh_base.specs.declared.statements.Event.{Event}
 use Rattle.wh_base.specs.declared.statements.Statement.{Statement}
 use Rattle.wh_base.specs.declared.tables.TableDef.{TableDef}
 use Rattle.def_dimensions.specs.Dimensions.{Dimension, new_dimension}
-use Rattle.def_effect.specs.Block.{Asks, Progress, Stopped, changed_row_refusal, effect, final_refusal, make_changes, run_asked, run_statement, run_statements, statement_asks, stop_at}
+use Rattle.def_effect.specs.Block.{Asks, Progress, changed_row_refusal, effect, final_refusal, make_changes, run_asked, run_statement, run_statements, statement_asks, stop_at}
 use Rattle.def_effect.specs.Define.{defined}
 use Rattle.def_effect.specs.Partitions.{Altering}
-use Rattle.def_history.specs.Catalog.{Catalog, Log, View, base_at, base_now, defs_now, empty_catalog, names_taken}
+use Rattle.def_history.specs.Catalog.{Catalog, Log, View, base_now, defs_now, names_taken}
 use Rattle.def_history.specs.History.{kept_versions}
 use Rattle.def_journal.specs.Committing.{after_block, do_dues}
 use Rattle.def_journal.specs.Journal.{state_after, state_of}
 use Rattle.def_journal.specs.Refreshing.{change_view, refreshed_to}
-use Rattle.def_journal.specs.State.{Session, State, empty_state, next_scn, with_base}
+use Rattle.def_journal.specs.State.{Session, State, next_scn, with_base}
 use Rattle.def_journal.specs.Statements.{altered, new_view, with_view}
 use Rattle.wh_trace.proofs.Due.{KeepsDue, dues_keep, suspended}
-use Rattle.wh_trace.proofs.Growing.{SamePast, dues_past, past_bounded, reached, trace_grows}
-use Rattle.wh_trace.proofs.Listed.{Each, Pairs, each_append, each_filter, each_left, each_right, each_weaker, find_alike, le_true, pairs_across, pairs_append, pairs_filter, pairs_from, pairs_left, pairs_right}
-use Rattle.wh_trace.proofs.Moves.{Adds, Alters, Commits, Creates, Declares, Drops, Forgets, Installs, KeepsView, Logs, Move, Purges, Stays, Switches, Withdraws, own}
+use Rattle.wh_trace.proofs.Growing.{SamePast, dues_past, past_bounded, reached}
+use Rattle.wh_trace.proofs.Listed.{Each, Pairs, each_append, each_left, each_right, each_weaker, find_alike, le_true, pairs_across, pairs_append, pairs_from, pairs_left, pairs_right}
+use Rattle.wh_trace.proofs.Moves.{Adds, Alters, Commits, Creates, Declares, Drops, Forgets, Installs, Logs, Move, Purges, Stays, Switches, Withdraws, own}
 use Rattle.wh_trace.proofs.Outcomes.{EachOk, bind_ok, ok_holds}
 use Rattle.wh_trace.proofs.Stepping.{moves}
-use Rattle.wh_trace.proofs.Traces.{by_events, state_more, state_push}
+use Rattle.wh_trace.proofs.Traces.{by_events, state_push}
 use Rattle.wh_trace.proofs.Viewing.{changed_name}
 use Rattle.wh_trace.specs.Laws.{TableLaws}
 use Rattle.wh_trace.specs.Reached.{IsSameView, catalog_of}
@@ -45,8 +45,8 @@ base_later : (c d : Catalog) → d.past ≡ c.past → c.scn ≤ d.scn → Each 
 base_later c d same later bounded =
     ap (λ past. option_case (find (λ p. nat_le p.0 d.scn) past) [] (λ p. p.1)) same
     ∙ ap (λ o. option_case o [] (λ p. p.1))
-        (find_alike (λ p. nat_le p.0 d.scn) (λ p. nat_le p.0 c.scn) c.past
-            (each_weaker (λ p. p.0 ≤ c.scn) (λ p. (nat_le p.0 d.scn ≡ true) × (nat_le p.0 c.scn ≡ true)) (λ p low. (le_true p.0 d.scn (omega arith), le_true p.0 c.scn low)) c.past bounded))
+    (find_alike (λ p. nat_le p.0 d.scn) (λ p. nat_le p.0 c.scn) c.past
+    (each_weaker (λ p. p.0 ≤ c.scn) (λ p. (nat_le p.0 d.scn ≡ true) × (nat_le p.0 c.scn ≡ true)) (λ p low. (le_true p.0 d.scn (omega arith), le_true p.0 c.scn low)) c.past bounded))
 
 -- ---- changes of rows and partitions leave the definitions
 
@@ -152,6 +152,7 @@ trace_longer trace more = by_events (λ more. Longer (catalog_of trace) (catalog
   where
     none : Longer (catalog_of trace) (catalog_of (trace ++ []))
     none = subst (λ t. Longer (catalog_of trace) (catalog_of t)) (sym (append-nil trace)) (longer_same (catalog_of trace) (catalog_of trace) refl)
+
     step : (front : List Event) (e : Event) → Longer (catalog_of trace) (catalog_of (trace ++ front)) → Longer (catalog_of trace) (catalog_of (trace ++ (front ++ e ∷ [])))
     step front e h =
         subst (λ t. Longer (catalog_of trace) (catalog_of t)) (append_assoc trace front (e ∷ []))
@@ -242,9 +243,9 @@ record SameNames (c d : Catalog) : Type 0 where
 named_same : (c d : Catalog) → defs_now d ≡ defs_now c → SameNames c d → AreNamed c → AreNamed d
 named_same c d defs same h =
     let names : names_taken d ≡ names_taken c =
-        ap (λ ds. map (λ (d : TableDef). d.name) ds ++ (view_names d ++ dimension_names d)) defs
-        ∙ ap (λ vs. table_names c ++ (vs ++ dimension_names d)) same.views
-        ∙ ap (λ ds. table_names c ++ (view_names c ++ map (λ (d : Dimension). d.name) ds)) same.dimensions in
+    ap (λ ds. map (λ (d : TableDef). d.name) ds ++ (view_names d ++ dimension_names d)) defs
+    ∙ ap (λ vs. table_names c ++ (vs ++ dimension_names d)) same.views
+    ∙ ap (λ ds. table_names c ++ (view_names c ++ map (λ (d : Dimension). d.name) ds)) same.dimensions in
     subst (Pairs Differ) (sym names) h
 
 names_changed : (n : ℕ) (f : View → View) → ((v : View) → IsSameView v.def (f v).def) → (vs : List View)
@@ -277,9 +278,9 @@ create_named : (c : Catalog) (t : Table) → has_text (names_taken c) t.def.name
 create_named c t new h =
     let rest : List Name = view_names c ++ dimension_names c in
     let names : names_taken (with_base c (base_now c ++ t ∷ [])) ≡ table_names c ++ t.def.name ∷ rest =
-        ap (λ ds. map (λ (d : TableDef). d.name) ds ++ rest) (create_defs c t)
-        ∙ ap (λ ns. ns ++ rest) (map-append (λ (d : TableDef). d.name) (defs_now c) (t.def ∷ []))
-        ∙ append_assoc (table_names c) (t.def.name ∷ []) rest in
+    ap (λ ds. map (λ (d : TableDef). d.name) ds ++ rest) (create_defs c t)
+    ∙ ap (λ ns. ns ++ rest) (map-append (λ (d : TableDef). d.name) (defs_now c) (t.def ∷ []))
+    ∙ append_assoc (table_names c) (t.def.name ∷ []) rest in
     subst (Pairs Differ) (sym names) (inserted (table_names c) rest t.def.name h new)
 
 add_named : (c : Catalog) (v : View) → has_text (names_taken c) v.def.name ≡ false → AreNamed c → AreNamed (with_view c v)
@@ -287,9 +288,9 @@ add_named c v new h =
     let front : List Name = table_names c ++ view_names c in
     let whole : names_taken c ≡ front ++ dimension_names c = sym (append_assoc (table_names c) (view_names c) (dimension_names c)) in
     let names : names_taken (with_view c v) ≡ front ++ v.def.name ∷ dimension_names c =
-        ap (λ ns. table_names c ++ (ns ++ dimension_names c)) (map-append (λ (v : View). v.def.name) c.views (v ∷ []))
-        ∙ ap (λ ns. table_names c ++ ns) (append_assoc (view_names c) (v.def.name ∷ []) (dimension_names c))
-        ∙ sym (append_assoc (table_names c) (view_names c) (v.def.name ∷ dimension_names c)) in
+    ap (λ ns. table_names c ++ (ns ++ dimension_names c)) (map-append (λ (v : View). v.def.name) c.views (v ∷ []))
+    ∙ ap (λ ns. table_names c ++ ns) (append_assoc (view_names c) (v.def.name ∷ []) (dimension_names c))
+    ∙ sym (append_assoc (table_names c) (view_names c) (v.def.name ∷ dimension_names c)) in
     subst (Pairs Differ) (sym names)
     (inserted front (dimension_names c) v.def.name (subst (Pairs Differ) whole h) (subst (λ ns. has_text ns v.def.name ≡ false) whole new))
 
@@ -298,9 +299,9 @@ declare_named c d new h =
     let all : List Name = names_taken c in
     let whole : all ≡ all ++ [] = sym (append-nil all) in
     let names : names_taken (record c { dimensions = c.dimensions ++ d ∷ [] }) ≡ all ++ d.name ∷ [] =
-        ap (λ ns. table_names c ++ (view_names c ++ ns)) (map-append (λ (d : Dimension). d.name) c.dimensions (d ∷ []))
-        ∙ ap (λ ns. table_names c ++ ns) (sym (append_assoc (view_names c) (dimension_names c) (d.name ∷ [])))
-        ∙ sym (append_assoc (table_names c) (view_names c ++ dimension_names c) (d.name ∷ [])) in
+    ap (λ ns. table_names c ++ (view_names c ++ ns)) (map-append (λ (d : Dimension). d.name) c.dimensions (d ∷ []))
+    ∙ ap (λ ns. table_names c ++ ns) (sym (append_assoc (view_names c) (dimension_names c) (d.name ∷ [])))
+    ∙ sym (append_assoc (table_names c) (view_names c ++ dimension_names c) (d.name ∷ [])) in
     subst (Pairs Differ) (sym names) (inserted all [] d.name (subst (Pairs Differ) whole h) (subst (λ ns. has_text ns d.name ≡ false) whole new))
 
 drop_named : (c : Catalog) (p : View → Bool) → AreNamed c → AreNamed (record c { views = filter p c.views })
@@ -308,9 +309,9 @@ drop_named c p h =
     let kept : List Name = map (λ (v : View). v.def.name) (filter p c.views) in
     let rest : Pairs Differ (view_names c ++ dimension_names c) = pairs_right Differ (table_names c) (view_names c ++ dimension_names c) h in
     let fewer : Pairs Differ (kept ++ dimension_names c) =
-        fewer_before (view_names c) kept (dimension_names c)
-        (pairs_thinned (λ (v : View). v.def.name) p c.views (pairs_left Differ (view_names c) (dimension_names c) rest))
-        (λ Q. each_thinned Q (λ (v : View). v.def.name) p c.views) rest in
+    fewer_before (view_names c) kept (dimension_names c)
+    (pairs_thinned (λ (v : View). v.def.name) p c.views (pairs_left Differ (view_names c) (dimension_names c) rest))
+    (λ Q. each_thinned Q (λ (v : View). v.def.name) p c.views) rest in
     fewer_behind (table_names c) (view_names c ++ dimension_names c) (kept ++ dimension_names c)
     (λ Q k. each_append Q kept (dimension_names c) (each_thinned Q (λ (v : View). v.def.name) p c.views (each_left Q (view_names c) (dimension_names c) k)) (each_right Q (view_names c) (dimension_names c) k))
     fewer h
@@ -321,7 +322,7 @@ withdraw_named c p h =
     let rest : Pairs Differ (view_names c ++ dimension_names c) = pairs_right Differ (table_names c) (view_names c ++ dimension_names c) h in
     let thin : (Q : Name → Type 0) → Each Q (dimension_names c) → Each Q kept = λ Q. each_thinned Q (λ (d : Dimension). d.name) p c.dimensions in
     let fewer : Pairs Differ (view_names c ++ kept) =
-        fewer_behind (view_names c) (dimension_names c) kept thin (pairs_thinned (λ (d : Dimension). d.name) p c.dimensions (pairs_right Differ (view_names c) (dimension_names c) rest)) rest in
+    fewer_behind (view_names c) (dimension_names c) kept thin (pairs_thinned (λ (d : Dimension). d.name) p c.dimensions (pairs_right Differ (view_names c) (dimension_names c) rest)) rest in
     fewer_behind (table_names c) (view_names c ++ dimension_names c) (view_names c ++ kept)
     (λ Q k. each_append Q (view_names c) kept (each_left Q (view_names c) (dimension_names c) k) (thin Q (each_right Q (view_names c) (dimension_names c) k)))
     fewer h

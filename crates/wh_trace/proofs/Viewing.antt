@@ -1,21 +1,19 @@
 -- Views by their numbers: what each event leaves of them.
-use Rattle.std.proofs.Common.{◌≡◌, ◌∙◌, sym, ap, refl, subst, arith, ℕ, suc, ◌<◌, ◌≤◌, Bool, true, false, cond, not, List, [], ◌∷◌, ◌++◌, map, Option, None, Some, ◌==◌}
-use Rattle.std.specs.List.{All, AllPairs, filter, find, fold}
+use Rattle.std.proofs.Common.{◌≡◌, ◌∙◌, sym, ap, refl, subst, arith, ℕ, suc, ◌<◌, ◌≤◌, Bool, true, false, cond, not, List, [], ◌∷◌, ◌++◌, Option, None, Some, ◌==◌}
+use Rattle.std.specs.List.{filter, find, fold}
 use Rattle.std.specs.Prelude.{option_map}
 use Rattle.std.proofs.lemmas.Bool.{eqb-true}
-use Rattle.wh_base.specs.Lists.{change_where}
 use Rattle.wh_base.specs.declared.statements.Event.{Event}
 use Rattle.wh_base.specs.declared.views.ViewDef.{ViewDef}
-use Rattle.def_effect.specs.Block.{Progress}
-use Rattle.def_history.specs.Catalog.{Catalog, View, empty_catalog, view_numbered}
-use Rattle.def_journal.specs.Committing.{after_block, do_dues}
+use Rattle.def_history.specs.Catalog.{Catalog, View, view_numbered}
+use Rattle.def_journal.specs.Committing.{after_block}
 use Rattle.def_journal.specs.Journal.{state_after, state_of}
 use Rattle.def_journal.specs.Refreshing.{change_view, refreshed_to}
 use Rattle.def_journal.specs.State.{Session, State, empty_state}
 use Rattle.def_journal.specs.Statements.{new_view, with_view}
 use Rattle.wh_trace.proofs.Due.{KeepsDue, dues_keep, suspended}
-use Rattle.wh_trace.proofs.Listed.{Each, Pairs, each_append, each_filter, each_map, each_weaker, eq_false, find_changed, find_left, find_pushed, keyed, pairs_filter, pairs_map, pairs_push}
-use Rattle.wh_trace.proofs.Moves.{Adds, Alters, Commits, Creates, Declares, Drops, Forgets, Installs, KeepsView, Logs, Move, Purges, Stays, Switches, Withdraws, own}
+use Rattle.wh_trace.proofs.Listed.{Each, Pairs, each_append, each_filter, each_map, each_weaker, eq_false, find_changed, find_left, find_pushed, pairs_filter, pairs_map, pairs_push}
+use Rattle.wh_trace.proofs.Moves.{Adds, Alters, Commits, Creates, Declares, Drops, Forgets, Installs, Logs, Move, Purges, Stays, Switches, Withdraws, own}
 use Rattle.wh_trace.proofs.Stepping.{moves}
 use Rattle.wh_trace.proofs.Traces.{state_more}
 use Rattle.wh_trace.specs.Reached.{IsSameView, catalog_of}

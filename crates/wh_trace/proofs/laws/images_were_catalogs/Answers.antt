@@ -1,4 +1,4 @@
-use Rattle.wh_trace.proofs.Imaging.{image_laws}
+use Rattle.wh_trace.proofs.Preceding.{image_laws}
 use Rattle.wh_trace.proofs.laws.images_were_catalogs.Goals as goal
 
 pub returns : goal.returns
