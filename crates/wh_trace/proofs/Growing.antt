@@ -35,6 +35,7 @@ IsNewer p q = q.0 < p.0
 
 pub record Grows (c d : Catalog) : Type 0 where
   pub scn : c.scn ≤ d.scn
+  pub oldest : c.oldest ≤ d.oldest
   pub newer : List (ℕ × Base)
   pub past : d.past ≡ newer ++ c.past
   pub falls : Pairs IsNewer newer
@@ -51,14 +52,16 @@ pub record Grows (c d : Catalog) : Type 0 where
 -- another catalog with the same past
 pub record SamePast (c d : Catalog) : Type 0 where
   pub scn : d.scn ≡ c.scn
+  pub oldest : d.oldest ≡ c.oldest
   pub past : d.past ≡ c.past
   pub changes : d.changes ≡ c.changes
   pub touches : d.touches ≡ c.touches
 
-grows_flat : (c d : Catalog) → c.scn ≤ d.scn → d.past ≡ c.past → d.changes ≡ c.changes → d.touches ≡ c.touches → Grows c d
-grows_flat c d scn past changes touches =
+grows_flat : (c d : Catalog) → c.scn ≤ d.scn → c.oldest ≤ d.oldest → d.past ≡ c.past → d.changes ≡ c.changes → d.touches ≡ c.touches → Grows c d
+grows_flat c d scn oldest past changes touches =
     record {
       scn = scn;
+      oldest = oldest;
       newer = [];
       past = past;
       falls = tt;
@@ -74,11 +77,12 @@ grows_flat c d scn past changes touches =
     }
 
 -- one base state more, with changes and touches, at the next SCN
-grows_based : (c d : Catalog) (base : Base) (news : List Noted) (touched : List Touched) → d.scn ≡ suc c.scn → d.past ≡ (suc c.scn, base) ∷ c.past
+grows_based : (c d : Catalog) (base : Base) (news : List Noted) (touched : List Touched) → d.scn ≡ suc c.scn → d.oldest ≡ c.oldest → d.past ≡ (suc c.scn, base) ∷ c.past
     → d.changes ≡ c.changes ++ news → Each (λ n. n.scn ≡ suc c.scn) news → d.touches ≡ c.touches ++ touched → Each (λ t. t.touch.scn ≡ suc c.scn) touched → Grows c d
-grows_based c d base news touched scn past changes news_at touches touched_at =
+grows_based c d base news touched scn oldest past changes news_at touches touched_at =
     record {
       scn = omega arith;
+      oldest = omega arith;
       newer = (suc c.scn, base) ∷ [];
       past = past;
       falls = (tt, tt);
@@ -99,6 +103,7 @@ grows_on c d e h k =
     let high : d.scn ≤ e.scn = k.scn in
     record {
       scn = omega arith;
+      oldest = omega (arith, h.oldest, k.oldest);
       newer = k.newer ++ h.newer;
       past = k.past ∙ ap (λ past. k.newer ++ past) h.past ∙ sym (append_assoc k.newer h.newer c.past);
       falls = pairs_append IsNewer k.newer h.newer k.falls h.falls
@@ -128,13 +133,13 @@ grows_on c d e h k =
 -- ---- what an event does
 
 same_past : (c : Catalog) → SamePast c c
-same_past c = record { scn = refl; past = refl; changes = refl; touches = refl }
+same_past c = record { scn = refl; oldest = refl; past = refl; changes = refl; touches = refl }
 
 due_keeps_past : (c : Catalog) → KeepsDue (SamePast c)
 due_keeps_past c =
     record {
-      suspends = λ d n h. record { scn = h.scn; past = h.past; changes = h.changes; touches = h.touches };
-      refreshes = λ d n h. record { scn = h.scn; past = h.past; changes = h.changes; touches = h.touches };
+      suspends = λ d n h. record { scn = h.scn; oldest = h.oldest; past = h.past; changes = h.changes; touches = h.touches };
+      refreshes = λ d n h. record { scn = h.scn; oldest = h.oldest; past = h.past; changes = h.changes; touches = h.touches };
     }
 
 -- the refreshes at a commit leave the past
@@ -145,31 +150,31 @@ commit_grows : (c : Catalog) (p : Progress) → Grows c (do_dues (after_block c 
 commit_grows c p =
     let same : SamePast (after_block c p) (do_dues (after_block c p) p.changes).catalog = dues_past c p in
     grows_based c (do_dues (after_block c p) p.changes).catalog p.base (map (noted (suc c.scn)) p.changes) (commit_touches (suc c.scn) p.base p.changes)
-    same.scn same.past same.changes (each_made (λ n. n.scn ≡ suc c.scn) (noted (suc c.scn)) (λ change. refl) p.changes)
+    same.scn same.oldest same.past same.changes (each_made (λ n. n.scn ≡ suc c.scn) (noted (suc c.scn)) (λ change. refl) p.changes)
     same.touches
     (each_flat (λ (t : Touched). t.touch.scn ≡ suc c.scn) (λ (q : ℕ × Table). map (part_touch (suc c.scn) q.0 false) (touched_parts q.1 (changes_in p.changes q.0)))
     (λ q. each_made (λ t. t.touch.scn ≡ suc c.scn) (part_touch (suc c.scn) q.0 false) (λ part. refl) (touched_parts q.1 (changes_in p.changes q.0))) (enumerate_from 0 p.base))
 
 move_grows : (s : State) (x : Session) (d : Catalog) → Move s x d → Grows s.catalog d
-move_grows s x d (Stays is) = subst (Grows s.catalog) (sym is) (grows_flat s.catalog s.catalog (omega arith) refl refl refl)
+move_grows s x d (Stays is) = subst (Grows s.catalog) (sym is) (grows_flat s.catalog s.catalog (omega arith) (omega arith) refl refl refl)
 move_grows s x d (Commits p statements same is) = subst (Grows s.catalog) (sym is) (commit_grows s.catalog p)
 move_grows s x d (Creates t new is) =
-    subst (Grows s.catalog) (sym is) (grows_based s.catalog _ (base_now s.catalog ++ defined (defs_now s.catalog) t ∷ []) [] [] refl refl (sym (append-nil s.catalog.changes)) tt (sym (append-nil s.catalog.touches)) tt)
+    subst (Grows s.catalog) (sym is) (grows_based s.catalog _ (base_now s.catalog ++ defined (defs_now s.catalog) t ∷ []) [] [] refl refl refl (sym (append-nil s.catalog.changes)) tt (sym (append-nil s.catalog.touches)) tt)
 move_grows s x d (Alters n a same is) =
     subst (Grows s.catalog) (sym is)
-    (grows_based s.catalog _ (with_table (base_now s.catalog) n a.table) [] (part_touch (suc s.catalog.scn) n true (a.part, a.interval) ∷ []) refl refl (sym (append-nil s.catalog.changes)) tt refl (refl, tt))
-move_grows s x d (Logs logs is) = subst (Grows s.catalog) (sym is) (grows_flat s.catalog _ (omega arith) refl refl refl)
-move_grows s x d (Purges logs is) = subst (Grows s.catalog) (sym is) (grows_flat s.catalog _ (omega arith) refl refl refl)
-move_grows s x d (Forgets oldest is) = subst (Grows s.catalog) (sym is) (grows_flat s.catalog _ (omega arith) refl refl refl)
-move_grows s x d (Adds v q new is) = subst (Grows s.catalog) (sym is) (grows_flat s.catalog _ (omega arith) refl refl refl)
-move_grows s x d (Switches n f keeps is) = subst (Grows s.catalog) (sym is) (grows_flat s.catalog _ (omega arith) refl refl refl)
-move_grows s x d (Installs n b begun is) = subst (Grows s.catalog) (sym is) (grows_flat s.catalog _ (omega arith) refl refl refl)
-move_grows s x d (Drops n is) = subst (Grows s.catalog) (sym is) (grows_flat s.catalog _ (omega arith) refl refl refl)
-move_grows s x d (Declares a new is) = subst (Grows s.catalog) (sym is) (grows_flat s.catalog _ (omega arith) refl refl refl)
-move_grows s x d (Withdraws name is) = subst (Grows s.catalog) (sym is) (grows_flat s.catalog _ (omega arith) refl refl refl)
+    (grows_based s.catalog _ (with_table (base_now s.catalog) n a.table) [] (part_touch (suc s.catalog.scn) n true (a.part, a.interval) ∷ []) refl refl refl (sym (append-nil s.catalog.changes)) tt refl (refl, tt))
+move_grows s x d (Logs logs is) = subst (Grows s.catalog) (sym is) (grows_flat s.catalog _ (omega arith) (omega arith) refl refl refl)
+move_grows s x d (Purges logs is) = subst (Grows s.catalog) (sym is) (grows_flat s.catalog _ (omega arith) (omega arith) refl refl refl)
+move_grows s x d (Forgets oldest more is) = subst (Grows s.catalog) (sym is) (grows_flat s.catalog _ (omega arith) (omega arith) refl refl refl)
+move_grows s x d (Adds v q new is) = subst (Grows s.catalog) (sym is) (grows_flat s.catalog _ (omega arith) (omega arith) refl refl refl)
+move_grows s x d (Switches n f keeps is) = subst (Grows s.catalog) (sym is) (grows_flat s.catalog _ (omega arith) (omega arith) refl refl refl)
+move_grows s x d (Installs n b begun is) = subst (Grows s.catalog) (sym is) (grows_flat s.catalog _ (omega arith) (omega arith) refl refl refl)
+move_grows s x d (Drops n is) = subst (Grows s.catalog) (sym is) (grows_flat s.catalog _ (omega arith) (omega arith) refl refl refl)
+move_grows s x d (Declares a new is) = subst (Grows s.catalog) (sym is) (grows_flat s.catalog _ (omega arith) (omega arith) refl refl refl)
+move_grows s x d (Withdraws name is) = subst (Grows s.catalog) (sym is) (grows_flat s.catalog _ (omega arith) (omega arith) refl refl refl)
 
 events_grow : (s : State) (events : List Event) → Grows s.catalog (fold state_after s events).catalog
-events_grow s [] = grows_flat s.catalog s.catalog (omega arith) refl refl refl
+events_grow s [] = grows_flat s.catalog s.catalog (omega arith) (omega arith) refl refl refl
 events_grow s (e ∷ events) =
     grows_on s.catalog (state_after s e).catalog (fold state_after (state_after s e) events).catalog (move_grows s (own s e) (state_after s e).catalog (moves s e).catalog)
     (events_grow (state_after s e) events)
@@ -245,6 +250,7 @@ pub base_laws : BaseLaws
 base_laws =
     record {
       grown = λ trace more. (trace_grows trace more).scn;
+      oldest = λ trace more. (trace_grows trace more).oldest;
       stays = λ trace more. base_stays (catalog_of trace) (catalog_of (trace ++ more)) (trace_grows trace more);
       falls = λ trace. pairs_from IsNewer (catalog_of trace).past (past_falls (catalog_of trace) (reached trace));
       bounded = λ trace. all_from (λ p. p.0 ≤ (catalog_of trace).scn) (catalog_of trace).past (past_bounded (catalog_of trace) (reached trace));

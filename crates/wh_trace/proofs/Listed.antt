@@ -1,10 +1,26 @@
 -- Facts on lists by recursion, and what is found in lists that grow, lose items or have some changed.
-use Rattle.std.proofs.Common.{◌≡◌, ◌∙◌, sym, ap, refl, subst, arith, ℕ, ◌<◌, ◌≤◌, Bool, true, false, cond, not, List, [], ◌∷◌, ◌++◌, map, None, Some, nat_le, ◌==◌, ◌&&◌}
+use Rattle.std.proofs.Common.{◌≡◌, ◌∙◌, sym, ap, refl, subst, arith, ℕ, ◌<◌, ◌≤◌, Bool, true, false, cond, not, List, [], ◌∷◌, ◌++◌, map, None, Some, nat_le, ◌==◌, ◌&&◌, ◌||◌, true≢false}
 use Rattle.std.specs.List.{All, AllPairs, filter, find, flat_map}
 use Rattle.std.specs.Prelude.{option_map}
 use Rattle.std.proofs.lemmas.Bool.{eqb-true, le-leb, lt-leb}
 use Rattle.std.proofs.lemmas.List.Elements.{All-cons, All-nil}
 use Rattle.std.proofs.lemmas.List.Kept.{AllPairs-cons}
+
+-- ---- options and tests
+
+pub none_not_some : {A : Type 0} (x : A) → None ≡ Some x → ⊥
+none_not_some x e = cc
+
+pub some_same : {A : Type 0} (x y : A) → Some x ≡ Some y → x ≡ y
+some_same x y e = cc
+
+pub or_first : (a b : Bool) → (a || b) ≡ false → a ≡ false
+or_first true b e = absurd (true≢false e)
+or_first false b e = refl
+
+pub or_second : (a b : Bool) → (a || b) ≡ false → b ≡ false
+or_second true b e = absurd (true≢false e)
+or_second false b e = e
 
 -- ---- of each item, and of each item with each later one
 

@@ -1,5 +1,5 @@
 -- What one event may make of the catalog and of its session. Each law is derived from these cases.
-use Rattle.std.proofs.Common.{◌≡◌, ◌∙◌, sym, ap, refl, subst, ℕ, false, true, not, List, [], ◌∷◌, ◌++◌, None, Some, ◌==◌}
+use Rattle.std.proofs.Common.{◌≡◌, ◌∙◌, sym, ap, refl, subst, ℕ, ◌≤◌, false, true, not, List, [], ◌∷◌, ◌++◌, None, Some, ◌==◌}
 use Rattle.std.specs.List.{filter}
 use Rattle.std.specs.Prelude.{Ok}
 use Rattle.wh_base.specs.Lists.{has_text, same_text}
@@ -42,7 +42,7 @@ pub data Move (s : State) (x : Session) (d : Catalog) : Type 0 where
   Alters : (n : ℕ) (a : Altering) → a.table.def ≡ (table_at (base_now s.catalog) n).def → d ≡ altered s.catalog n a → Move s x d
   Logs : (logs : List Log) → d ≡ record (next_scn s.catalog) { logs = logs } → Move s x d
   Purges : (logs : List Log) → d ≡ record s.catalog { logs = logs } → Move s x d
-  Forgets : (oldest : ℕ) → d ≡ record s.catalog { oldest = oldest } → Move s x d
+  Forgets : (oldest : ℕ) → s.catalog.oldest ≤ oldest → d ≡ record s.catalog { oldest = oldest } → Move s x d
   Adds : (v : NewView) (q : StarQuery) → has_text (names_taken s.catalog) v.name ≡ false → d ≡ with_view s.catalog (new_view s.catalog v q) → Move s x d
   Switches : (n : ℕ) (f : View → View) → KeepsView f → d ≡ change_view n f s.catalog → Move s x d
   Installs : (n : ℕ) (b : Begun) → x.begun ≡ Some b → d ≡ change_view n (refreshed_to b.image.scn) s.catalog → Move s x d

@@ -1,5 +1,5 @@
 -- The points of the views, and the laws of views.
-use Rattle.std.proofs.Common.{◌≡◌, ◌≢◌, ◌∙◌, sym, ap, subst, arith, ℕ, suc, ◌≤◌, Bool, true, false, cond, not, List, [], ◌∷◌, ◌++◌, map, None, Some, ◌==◌}
+use Rattle.std.proofs.Common.{◌≡◌, ◌≢◌, ◌∙◌, sym, ap, subst, arith, ℕ, suc, ◌≤◌, Bool, true, false, cond, not, List, [], ◌∷◌, ◌++◌, map, Some, ◌==◌}
 use Rattle.std.specs.Option.{ForSome}
 use Rattle.wh_base.specs.Lists.{where_true}
 use Rattle.wh_base.specs.declared.statements.Event.{Event}
@@ -12,7 +12,7 @@ use Rattle.def_journal.specs.Statements.{new_view}
 use Rattle.wh_trace.proofs.Due.{KeepsDue, dues_keep, suspended}
 use Rattle.wh_trace.proofs.Growing.{trace_grows}
 use Rattle.wh_trace.proofs.Imaging.{all_begun}
-use Rattle.wh_trace.proofs.Listed.{Each, Pairs, all_from, each_append, each_filter, each_map, each_unmap, each_weaker, pairs_from, pairs_left, pairs_right}
+use Rattle.wh_trace.proofs.Listed.{Each, Pairs, all_from, each_append, each_filter, each_map, each_unmap, each_weaker, none_not_some, pairs_from, pairs_left, pairs_right, some_same}
 use Rattle.wh_trace.proofs.Moves.{Adds, Alters, Commits, Creates, Declares, Drops, Forgets, Installs, Logs, Move, Purges, Stays, Switches, Withdraws, own}
 use Rattle.wh_trace.proofs.Stepping.{moves}
 use Rattle.wh_trace.proofs.Tabling.{trace_named}
@@ -27,12 +27,6 @@ IsAtMost scn v = ForSome v.point (λ p. p ≤ scn)
 abbrev Pointed : Catalog → Type 0
 Pointed c = Each (IsAtMost c.scn) c.views
 
-same_number : (m n : ℕ) → Some m ≡ Some n → m ≡ n
-same_number m n e = cc
-
-none_not_number : (n : ℕ) → None ≡ Some n → ⊥
-none_not_number n e = cc
-
 at_next : (scn : ℕ) (v : View) → IsAtMost scn v → IsAtMost (suc scn) v
 at_next scn v at p e = let low : p ≤ scn = at p e in omega arith
 
@@ -40,7 +34,7 @@ raised : (scn : ℕ) (vs : List View) → Each (IsAtMost scn) vs → Each (IsAtM
 raised scn vs h = each_weaker (IsAtMost scn) (IsAtMost (suc scn)) (at_next scn) vs h
 
 refreshed_at : (scn m : ℕ) (v : View) → m ≤ scn → IsAtMost scn (refreshed_to m v)
-refreshed_at scn m v low p e = let same : m ≡ p = same_number m p e in omega arith
+refreshed_at scn m v low p e = let same : m ≡ p = some_same m p e in omega arith
 
 pointed_changed : (c : Catalog) (n : ℕ) (f : View → View) → ((v : View) → IsAtMost c.scn v → IsAtMost c.scn (f v)) → Pointed c → Pointed (change_view n f c)
 pointed_changed c n f keeps h = each_map (IsAtMost c.scn) (IsAtMost c.scn) (λ v. cond (v.def.view == n) (f v) v) (λ v. by v (v.def.view == n)) c.views h
@@ -57,8 +51,8 @@ due_pointed =
     }
 
 built_at : (built : Bool) (scn p : ℕ) → where_true built scn ≡ Some p → p ≤ scn
-built_at true scn p e = let same : scn ≡ p = same_number scn p e in omega arith
-built_at false scn p e = absurd (none_not_number p e)
+built_at true scn p e = let same : scn ≡ p = some_same scn p e in omega arith
+built_at false scn p e = absurd (none_not_some p e)
 
 -- the images of what was begun aren't of later SCNs
 abbrev IsEarlier : State → Session → Type 0
@@ -71,7 +65,7 @@ move_pointed s x d early (Creates t new is) h = subst Pointed (sym is) (raised s
 move_pointed s x d early (Alters n a same is) h = subst Pointed (sym is) (raised s.catalog.scn s.catalog.views h)
 move_pointed s x d early (Logs logs is) h = subst Pointed (sym is) (raised s.catalog.scn s.catalog.views h)
 move_pointed s x d early (Purges logs is) h = subst Pointed (sym is) h
-move_pointed s x d early (Forgets oldest is) h = subst Pointed (sym is) h
+move_pointed s x d early (Forgets oldest more is) h = subst Pointed (sym is) h
 move_pointed s x d early (Adds v q new is) h =
     subst Pointed (sym is) (each_append (IsAtMost s.catalog.scn) s.catalog.views (new_view s.catalog v q ∷ []) h (λ p e. built_at (not v.deferred) s.catalog.scn p e, tt))
 move_pointed s x d early (Switches n f keeps is) h = subst Pointed (sym is) (pointed_changed s.catalog n f (λ v at p e. at p (sym (keeps.point v) ∙ e)) h)

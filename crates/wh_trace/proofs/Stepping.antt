@@ -1,5 +1,5 @@
 -- Every event leaves one of the cases of Moves.
-use Rattle.std.proofs.Common.{◌≡◌, refl, ℕ, Bool, true, not, cond, List, [], ◌∷◌, ◌++◌, length, Option, None, Some, nat_le, ◌==◌}
+use Rattle.std.proofs.Common.{arith, ◌≡◌, refl, ℕ, Bool, true, not, cond, List, [], ◌∷◌, ◌++◌, length, Option, None, Some, nat_le, ◌==◌}
 use Rattle.std.specs.List.{filter}
 use Rattle.std.specs.Prelude.{Err, Ok, Result, int_lt, max, nat_abs, pos, ◌-◌}
 use Rattle.wh_base.specs.Lists.{change_where, first_some, has_text, option_case, or_refuse, same_text, unless, where_true, ◌>>=◌}
@@ -121,7 +121,7 @@ purge_leads s x (PurgeUndo n) =
     let c : Catalog = s.catalog in
     unless_ok (Left s x) (where_true (int_lt (pos c.scn) n) (FutureScn n c.scn))
     (record c { oldest = max c.oldest (nat_abs n) }, kept_versions c - versions_kept_above c (max c.oldest (nat_abs n)))
-    (λ none. Forgets (max c.oldest (nat_abs n)) refl)
+    (λ none. Forgets (max c.oldest (nat_abs n)) (omega arith) refl)
 
 -- ---- views and dimensions
 

@@ -1,5 +1,5 @@
 -- Tables only come, and the names of all objects differ.
-use Rattle.std.proofs.Common.{◌≡◌, ◌≢◌, ◌∙◌, sym, ap, refl, subst, arith, ℕ, zero, suc, ◌+◌, ◌≤◌, Bool, true, false, cond, not, List, [], ◌∷◌, ◌++◌, map, Option, None, Some, nat_le, ◌==◌, ◌||◌, true≢false}
+use Rattle.std.proofs.Common.{◌≡◌, ◌≢◌, ◌∙◌, sym, ap, refl, subst, arith, ℕ, zero, suc, ◌+◌, ◌≤◌, Bool, true, false, cond, not, List, [], ◌∷◌, ◌++◌, map, Option, None, Some, nat_le, ◌==◌, true≢false}
 use Rattle.std.specs.List.{filter, find}
 use Rattle.std.specs.Prelude.{Err, Ok, Result}
 use Rattle.std.proofs.lemmas.List.{append-nil, append_assoc, map-append}
@@ -23,7 +23,7 @@ use Rattle.def_journal.specs.State.{Session, State, next_scn, with_base}
 use Rattle.def_journal.specs.Statements.{altered, new_view, with_view}
 use Rattle.wh_trace.proofs.Due.{KeepsDue, dues_keep, suspended}
 use Rattle.wh_trace.proofs.Growing.{SamePast, dues_past, past_bounded, reached}
-use Rattle.wh_trace.proofs.Listed.{Each, Pairs, each_append, each_left, each_right, each_weaker, find_alike, le_true, pairs_across, pairs_append, pairs_from, pairs_left, pairs_right}
+use Rattle.wh_trace.proofs.Listed.{Each, Pairs, each_append, each_left, each_right, each_weaker, find_alike, le_true, or_first, or_second, pairs_across, pairs_append, pairs_from, pairs_left, pairs_right}
 use Rattle.wh_trace.proofs.Moves.{Adds, Alters, Commits, Creates, Declares, Drops, Forgets, Installs, Logs, Move, Purges, Stays, Switches, Withdraws, own}
 use Rattle.wh_trace.proofs.Outcomes.{EachOk, bind_ok, ok_holds}
 use Rattle.wh_trace.proofs.Stepping.{moves}
@@ -130,7 +130,7 @@ move_longer s x d bounded (Creates t new is) =
 move_longer s x d bounded (Alters n a same is) = subst (Longer s.catalog) (sym is) (longer_same s.catalog _ (alter_defs s.catalog n a same))
 move_longer s x d bounded (Logs logs is) = subst (Longer s.catalog) (sym is) (longer_same s.catalog _ (logs_defs s.catalog logs bounded))
 move_longer s x d bounded (Purges logs is) = subst (Longer s.catalog) (sym is) (longer_same s.catalog _ refl)
-move_longer s x d bounded (Forgets oldest is) = subst (Longer s.catalog) (sym is) (longer_same s.catalog _ refl)
+move_longer s x d bounded (Forgets oldest more is) = subst (Longer s.catalog) (sym is) (longer_same s.catalog _ refl)
 move_longer s x d bounded (Adds v q new is) = subst (Longer s.catalog) (sym is) (longer_same s.catalog _ refl)
 move_longer s x d bounded (Switches n f keeps is) = subst (Longer s.catalog) (sym is) (longer_same s.catalog _ refl)
 move_longer s x d bounded (Installs n b begun is) = subst (Longer s.catalog) (sym is) (longer_same s.catalog _ refl)
@@ -178,19 +178,11 @@ table_names c = map (λ d. d.name) (defs_now c)
 differ_turned : (a b : Name) → Differ a b → Differ b a
 differ_turned a b h same = h (sym same)
 
-or_left : (a b : Bool) → (a || b) ≡ false → a ≡ false
-or_left true b e = absurd (true≢false e)
-or_left false b e = refl
-
-or_right : (a b : Bool) → (a || b) ≡ false → b ≡ false
-or_right true b e = absurd (true≢false e)
-or_right false b e = e
-
 -- a name that isn't taken differs from each that is
 not_taken : (name : Name) (names : List Name) → has_text names name ≡ false → Each (λ a. Differ a name) names
 not_taken name [] e = tt
 not_taken name (a ∷ names) e =
-    (λ same. true≢false (sym ((bytes_eq-Decides name a).1 (sym same)) ∙ or_left (same_text name a) (has_text names name) e), not_taken name names (or_right (same_text name a) (has_text names name) e))
+    (λ same. true≢false (sym ((bytes_eq-Decides name a).1 (sym same)) ∙ or_first (same_text name a) (has_text names name) e), not_taken name names (or_second (same_text name a) (has_text names name) e))
 
 -- a name more, wherever it stands
 inserted : (front back : List Name) (name : Name) → Pairs Differ (front ++ back) → has_text (front ++ back) name ≡ false → Pairs Differ (front ++ name ∷ back)
@@ -334,7 +326,7 @@ move_named s x d bounded (Creates t new is) h = subst AreNamed (sym is) (create_
 move_named s x d bounded (Alters n a same is) h = subst AreNamed (sym is) (named_same s.catalog (altered s.catalog n a) (alter_defs s.catalog n a same) (all_same s.catalog (altered s.catalog n a) refl refl) h)
 move_named s x d bounded (Logs logs is) h = subst AreNamed (sym is) (named_same s.catalog (record (next_scn s.catalog) { logs = logs }) (logs_defs s.catalog logs bounded) (all_same s.catalog (record (next_scn s.catalog) { logs = logs }) refl refl) h)
 move_named s x d bounded (Purges logs is) h = subst AreNamed (sym is) h
-move_named s x d bounded (Forgets oldest is) h = subst AreNamed (sym is) h
+move_named s x d bounded (Forgets oldest more is) h = subst AreNamed (sym is) h
 move_named s x d bounded (Adds v q new is) h = subst AreNamed (sym is) (add_named s.catalog (new_view s.catalog v q) new h)
 move_named s x d bounded (Switches n f keeps is) h = subst AreNamed (sym is) (named_same s.catalog (change_view n f s.catalog) refl (changed_names s.catalog n f keeps.def) h)
 move_named s x d bounded (Installs n b begun is) h = subst AreNamed (sym is) (named_same s.catalog (change_view n (refreshed_to b.image.scn) s.catalog) refl (changed_names s.catalog n (refreshed_to b.image.scn) (λ v. refl)) h)

@@ -1,11 +1,12 @@
 -- Traces one event longer, and induction over them.
-use Rattle.std.proofs.Common.{◌≡◌, ◌∙◌, sym, refl, subst, ℕ, Bool, true, false, ◌||◌, List, [], ◌∷◌, ◌++◌, true≢false}
+use Rattle.std.proofs.Common.{◌≡◌, ◌∙◌, sym, refl, subst, ℕ, false, List, [], ◌∷◌, ◌++◌}
 use Rattle.std.specs.List.{fold, list_any}
 use Rattle.std.proofs.lemmas.List.{append-nil, append_assoc}
 use Rattle.std.proofs.lemmas.List.Sums.{fold-append}
 use Rattle.wh_base.specs.declared.statements.Event.{Event}
 use Rattle.def_journal.specs.Journal.{state_after, state_of}
 use Rattle.def_journal.specs.State.{State, empty_state, session_of}
+use Rattle.wh_trace.proofs.Listed.{or_first, or_second}
 use Rattle.wh_trace.proofs.Stepping.{moves}
 use Rattle.wh_trace.specs.Laws.{SessionLaws}
 use Rattle.wh_trace.specs.Reached.{is_of}
@@ -25,14 +26,6 @@ pub by_events : (P : List Event → Type 0) → P [] → ((front : List Event) (
 by_events P none more trace = from P more [] trace none
 
 -- ---- sessions
-
-or_first : (a b : Bool) → (a || b) ≡ false → a ≡ false
-or_first true b e = absurd (true≢false e)
-or_first false b e = refl
-
-or_second : (a b : Bool) → (a || b) ≡ false → b ≡ false
-or_second true b e = absurd (true≢false e)
-or_second false b e = e
 
 events_apart : (s : State) (events : List Event) (n : ℕ) → list_any (is_of n) events ≡ false → session_of (fold state_after s events) n ≡ session_of s n
 events_apart s [] n none = refl

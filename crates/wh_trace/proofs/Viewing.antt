@@ -2,7 +2,6 @@
 use Rattle.std.proofs.Common.{◌≡◌, ◌∙◌, sym, ap, refl, subst, arith, ℕ, suc, ◌<◌, ◌≤◌, Bool, true, false, cond, not, List, [], ◌∷◌, ◌++◌, Option, None, Some, ◌==◌}
 use Rattle.std.specs.List.{filter, find, fold}
 use Rattle.std.specs.Prelude.{option_map}
-use Rattle.std.proofs.lemmas.Bool.{eqb-true}
 use Rattle.wh_base.specs.declared.statements.Event.{Event}
 use Rattle.wh_base.specs.declared.views.ViewDef.{ViewDef}
 use Rattle.def_history.specs.Catalog.{Catalog, View, view_numbered}
@@ -12,7 +11,7 @@ use Rattle.def_journal.specs.Refreshing.{change_view, refreshed_to}
 use Rattle.def_journal.specs.State.{Session, State, empty_state}
 use Rattle.def_journal.specs.Statements.{new_view, with_view}
 use Rattle.wh_trace.proofs.Due.{KeepsDue, dues_keep, suspended}
-use Rattle.wh_trace.proofs.Listed.{Each, Pairs, each_append, each_filter, each_map, each_weaker, eq_false, find_changed, find_left, find_pushed, pairs_filter, pairs_map, pairs_push}
+use Rattle.wh_trace.proofs.Listed.{Each, Pairs, each_append, each_filter, each_found, each_map, each_weaker, eq_false, find_changed, find_has, find_left, find_pushed, none_not_some, some_same, pairs_filter, pairs_map, pairs_push}
 use Rattle.wh_trace.proofs.Moves.{Adds, Alters, Commits, Creates, Declares, Drops, Forgets, Installs, Logs, Move, Purges, Stays, Switches, Withdraws, own}
 use Rattle.wh_trace.proofs.Stepping.{moves}
 use Rattle.wh_trace.proofs.Traces.{state_more}
@@ -116,7 +115,7 @@ move_follows s x d (Creates t new is) = subst (Follows s.catalog) (sym is) (foll
 move_follows s x d (Alters n a same is) = subst (Follows s.catalog) (sym is) (follows_same s.catalog _ refl refl)
 move_follows s x d (Logs logs is) = subst (Follows s.catalog) (sym is) (follows_same s.catalog _ refl refl)
 move_follows s x d (Purges logs is) = subst (Follows s.catalog) (sym is) (follows_same s.catalog _ refl refl)
-move_follows s x d (Forgets oldest is) = subst (Follows s.catalog) (sym is) (follows_same s.catalog _ refl refl)
+move_follows s x d (Forgets oldest more is) = subst (Follows s.catalog) (sym is) (follows_same s.catalog _ refl refl)
 move_follows s x d (Adds v q new is) = subst (Follows s.catalog) (sym is) (follows_added s.catalog (new_view s.catalog v q) refl)
 move_follows s x d (Switches n f keeps is) = subst (Follows s.catalog) (sym is) (follows_changed s.catalog n f keeps.def)
 move_follows s x d (Installs n b begun is) = subst (Follows s.catalog) (sym is) (follows_changed s.catalog n (refreshed_to b.image.scn) (λ v. refl))
@@ -133,17 +132,11 @@ events_follow s (e ∷ events) =
 pub trace_follows : (trace more : List Event) → Follows (catalog_of trace) (catalog_of (trace ++ more))
 trace_follows trace more = subst (λ s. Follows (catalog_of trace) s.catalog) (sym (state_more trace more)) (events_follow (state_of trace) more)
 
-none_not_some : {A : Type 0} (x : A) → None ≡ Some x → ⊥
-none_not_some x e = cc
-
 pub same_later : (c d : Catalog) → Follows c d → (n : ℕ) (v w : View) → n ≤ c.views_made → view_numbered c n ≡ Some v → view_numbered d n ≡ Some w → IsSameView v.def w.def
 same_later c d h n v w low before after =
     let was : Earlier c n w = h.kept n w low after in
-    let one : was.view ≡ v = some_is was.view v (sym was.found ∙ before) in
+    let one : was.view ≡ v = some_same was.view v (sym was.found ∙ before) in
     subst (λ (u : View). IsSameView u.def w.def) one was.same
-  where
-    some_is : (u v : View) → Some u ≡ Some v → u ≡ v
-    some_is u v e = cc
 
 pub gone_later : (c d : Catalog) → Follows c d → (n : ℕ) → n ≤ c.views_made → view_numbered c n ≡ None → view_numbered d n ≡ None
 gone_later c d h n low before = by (view_numbered d n) refl
@@ -209,7 +202,7 @@ move_ordered s x d (Creates t new is) h = subst Ordered (sym is) (ordered_same s
 move_ordered s x d (Alters n a same is) h = subst Ordered (sym is) (ordered_same s.catalog _ refl refl h)
 move_ordered s x d (Logs logs is) h = subst Ordered (sym is) (ordered_same s.catalog _ refl refl h)
 move_ordered s x d (Purges logs is) h = subst Ordered (sym is) (ordered_same s.catalog _ refl refl h)
-move_ordered s x d (Forgets oldest is) h = subst Ordered (sym is) (ordered_same s.catalog _ refl refl h)
+move_ordered s x d (Forgets oldest more is) h = subst Ordered (sym is) (ordered_same s.catalog _ refl refl h)
 move_ordered s x d (Adds v q new is) h = subst Ordered (sym is) (ordered_added s.catalog (new_view s.catalog v q) refl h)
 move_ordered s x d (Switches n f keeps is) h = subst Ordered (sym is) (ordered_changed s.catalog n f keeps.def h)
 move_ordered s x d (Installs n b begun is) h = subst Ordered (sym is) (ordered_changed s.catalog n (refreshed_to b.image.scn) (λ v. refl) h)
@@ -225,13 +218,8 @@ pub trace_ordered : (trace : List Event) → Ordered (catalog_of trace)
 trace_ordered trace = events_ordered empty_state trace (record { ascending = tt; numbered = tt })
 
 -- a view that is found was made
-found_made : (made n : ℕ) (vs : List View) (v : View) → Each (IsNumbered made) vs → find (λ w. w.def.view == n) vs ≡ Some v → n ≤ made
-found_made made n [] v h e = absurd (none_not_some v e)
-found_made made n (w ∷ vs) v h e = by (w.def.view == n) refl e (found_made made n vs v h.1)
-  where
-    by : (b : Bool) → (w.def.view == n) ≡ b → cond b (Some w) (find (λ u. u.def.view == n) vs) ≡ Some v → (find (λ u. u.def.view == n) vs ≡ Some v → n ≤ made) → n ≤ made
-    by true is found more = let number : w.def.view ≡ n = eqb-true w.def.view n is in let top : w.def.view ≤ made = h.0.1 in omega arith
-    by false is found more = more found
-
 pub numbered_made : (c : Catalog) → Ordered c → (n : ℕ) (v : View) → view_numbered c n ≡ Some v → n ≤ c.views_made
-numbered_made c h n v found = found_made c.views_made n c.views v h.numbered found
+numbered_made c h n v found =
+    let number : v.def.view ≡ n = find_has (λ (v : View). v.def.view) n c.views v found in
+    let made : IsNumbered c.views_made v = each_found (IsNumbered c.views_made) (λ v. v.def.view == n) c.views v h.numbered found in
+    subst (λ n. n ≤ c.views_made) number made.1

@@ -24,8 +24,9 @@ pub record SessionLaws : Type 0 where
 
 -- The past of the base state only grows, at its new end.
 pub record BaseLaws : Type 0 where
-  -- the SCN never falls
+  -- neither the SCN nor the least one that AS OF may ask for ever falls
   pub grown : (trace more : List Event) → (catalog_of trace).scn ≤ (catalog_of (trace ++ more)).scn
+  pub oldest : (trace more : List Event) → (catalog_of trace).oldest ≤ (catalog_of (trace ++ more)).oldest
   -- what the base state was at an SCN that was reached stays
   pub stays : (trace more : List Event) (p : ℕ) → p ≤ (catalog_of trace).scn → base_at (catalog_of (trace ++ more)) p ≡ base_at (catalog_of trace) p
   -- the SCNs of the past fall from the latest on, and none is above the SCN of now
