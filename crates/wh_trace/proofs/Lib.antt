@@ -1,0 +1,14 @@
+pub mod Listed
+pub mod Seated
+pub mod Moves
+pub mod Outcomes
+pub mod Stepping
+pub mod Traces
+pub mod Due
+pub mod Growing
+pub mod Viewing
+pub mod Imaging
+pub mod Tabling
+pub mod Preceding
+pub mod Pointing
+pub mod Installing

@@ -1,0 +1,98 @@
+-- Why the newest rows and the images that sessions took are enough: what each event of a trace leaves as it was.
+use Rattle.std.specs.List.{All, AllPairs, list_any}
+use Rattle.std.specs.Option.{ForSome}
+use Rattle.std.specs.Prelude.{◌≡◌, ◌≢◌, ◌<◌, ◌≤◌, List, None, Some, false, fold, ℕ, ◌++◌, ◌∷◌}
+use Rattle.wh_base.specs.Tables.{Base}
+use Rattle.wh_base.specs.declared.statements.Event.{Event}
+use Rattle.wh_base.specs.declared.tables.TableDef.{TableDef}
+use Rattle.def_history.specs.Catalog.{Catalog, View, base_at, base_now, defs_now, names_taken, view_numbered}
+use Rattle.def_history.specs.History.{changes_of, maintained, touches_of}
+use Rattle.def_history.specs.Staleness.{content}
+use Rattle.def_journal.specs.Journal.{state_after, state_of}
+use Rattle.def_journal.specs.Refreshing.{begun_view}
+use Rattle.def_journal.specs.State.{Begun, State, session_of}
+use Rattle.def_meaning.specs.Meaning.{stored}
+use Rattle.wh_trace.specs.Reached.{HasBegun, HasOpened, IsSameView, Precedes, catalog_of, is_of}
+
+-- What a session keeps is changed by its own events alone, whatever the state.
+pub record SessionLaws : Type 0 where
+  pub event : (s : State) (e : Event) (n : ℕ) → is_of n e ≡ false → session_of (state_after s e) n ≡ session_of s n
+  pub events : (s : State) (events : List Event) (n : ℕ) → list_any (is_of n) events ≡ false
+      → session_of (fold state_after s events) n ≡ session_of s n
+  pub traces : (trace more : List Event) (n : ℕ) → list_any (is_of n) more ≡ false
+      → session_of (state_of (trace ++ more)) n ≡ session_of (state_of trace) n
+
+-- The past of the base state only grows, at its new end.
+pub record BaseLaws : Type 0 where
+  -- neither the SCN nor the least one that AS OF may ask for ever falls
+  pub grown : (trace more : List Event) → (catalog_of trace).scn ≤ (catalog_of (trace ++ more)).scn
+  pub oldest : (trace more : List Event) → (catalog_of trace).oldest ≤ (catalog_of (trace ++ more)).oldest
+  -- what the base state was at an SCN that was reached stays
+  pub stays : (trace more : List Event) (p : ℕ) → p ≤ (catalog_of trace).scn → base_at (catalog_of (trace ++ more)) p ≡ base_at (catalog_of trace) p
+  -- the SCNs of the past fall from the latest on, and none is above the SCN of now
+  pub falls : (trace : List Event) → AllPairs (λ p q. q.0 < p.0) (catalog_of trace).past
+  pub bounded : (trace : List Event) → All (λ p. p.0 ≤ (catalog_of trace).scn) (catalog_of trace).past
+  -- the first of the past is the base state of now
+  pub newest : (trace : List Event) → (scn : ℕ) × (older : List (ℕ × Base)) × ((catalog_of trace).past ≡ (scn, base_now (catalog_of trace)) ∷ older)
+
+-- The changes and touches up to an SCN that was reached stay.
+pub record ChangeLaws : Type 0 where
+  pub changes : (trace more : List Event) (table from p : ℕ) → p ≤ (catalog_of trace).scn
+      → changes_of (catalog_of (trace ++ more)) table from p ≡ changes_of (catalog_of trace) table from p
+  pub touches : (trace more : List Event) (table from p : ℕ) → p ≤ (catalog_of trace).scn
+      → touches_of (catalog_of (trace ++ more)) table from p ≡ touches_of (catalog_of trace) table from p
+  pub maintenance : (trace more : List Event) (table from p : ℕ) → p ≤ (catalog_of trace).scn
+      → maintained (catalog_of (trace ++ more)) table from p ≡ maintained (catalog_of trace) table from p
+  -- their SCNs never fall, and none is above that of now
+  pub rising : (trace : List Event) → AllPairs (λ m n. m.scn ≤ n.scn) (catalog_of trace).changes
+  pub bounded : (trace : List Event) → All (λ n. n.scn ≤ (catalog_of trace).scn) (catalog_of trace).changes
+  pub touched_rising : (trace : List Event) → AllPairs (λ t u. t.touch.scn ≤ u.touch.scn) (catalog_of trace).touches
+  pub touched : (trace : List Event) → All (λ t. t.touch.scn ≤ (catalog_of trace).scn) (catalog_of trace).touches
+
+-- A view's number is its own for ever, and all of its definition but `rewrite` stays.
+pub record ViewLaws : Type 0 where
+  -- the numbers of the views ascend, from 1 at least up to how many were made at most
+  pub ascending : (trace : List Event) → AllPairs (λ v w. v.def.view < w.def.view) (catalog_of trace).views
+  pub first : (trace : List Event) → All (λ v. 1 ≤ v.def.view) (catalog_of trace).views
+  pub last : (trace : List Event) → All (λ v. v.def.view ≤ (catalog_of trace).views_made) (catalog_of trace).views
+  pub made : (trace more : List Event) → (catalog_of trace).views_made ≤ (catalog_of (trace ++ more)).views_made
+  -- the names of the views differ
+  pub named : (trace : List Event) → AllPairs (λ v w. v.def.name ≢ w.def.name) (catalog_of trace).views
+  -- no point is above the SCN
+  pub points : (trace : List Event) → All (λ v. ForSome v.point (λ p. p ≤ (catalog_of trace).scn)) (catalog_of trace).views
+  -- a view that is there before and after is the same view
+  pub same : (trace more : List Event) (n : ℕ) (v w : View) → view_numbered (catalog_of trace) n ≡ Some v
+      → view_numbered (catalog_of (trace ++ more)) n ≡ Some w → IsSameView v.def w.def
+  -- a number that was given and that no view has is never a view's again
+  pub gone : (trace more : List Event) (n : ℕ) → n ≤ (catalog_of trace).views_made → view_numbered (catalog_of trace) n ≡ None
+      → view_numbered (catalog_of (trace ++ more)) n ≡ None
+
+-- What a session keeps from a begin or from SET TRANSACTION READ ONLY is the catalog of a front of the trace, so the catalog of now keeps all
+-- that was past then.
+pub record ImageLaws : Type 0 where
+  pub begun : (trace : List Event) (n : ℕ) (b : Begun) → (session_of (state_of trace) n).begun ≡ Some b → HasBegun trace n b
+  pub opened : (trace : List Event) (n : ℕ) (image : Catalog) → (session_of (state_of trace) n).reading ≡ Some image → HasOpened trace n image
+  pub begun_before : (trace : List Event) (n : ℕ) (b : Begun) → (session_of (state_of trace) n).begun ≡ Some b → Precedes b.image (catalog_of trace)
+  pub opened_before : (trace : List Event) (n : ℕ) (image : Catalog) → (session_of (state_of trace) n).reading ≡ Some image → Precedes image (catalog_of trace)
+
+-- Tables only come, and no definition of a table changes.
+pub record TableLaws : Type 0 where
+  pub grown : (trace more : List Event) → (later : List TableDef) × (defs_now (catalog_of (trace ++ more)) ≡ defs_now (catalog_of trace) ++ later)
+  -- the names of all tables, views and dimensions differ
+  pub named : (trace : List Event) → AllPairs (λ a b. a ≢ b) (names_taken (catalog_of trace))
+
+-- A refresh that a session has begun, whose view is still there: the base state at the SCN of its image is that of the image, the image has
+-- the view with the same query, and so the entries computed over the image are what the view stores at that SCN.
+pub record Stands (now : Catalog) (b : Begun) (w : View) : Type 0 where
+  pub then : View
+  pub found : begun_view b ≡ Some then
+  pub same : IsSameView then.def w.def
+  pub base : base_at now b.image.scn ≡ base_now b.image
+  pub content : stored w.def.query (base_at now b.image.scn) ≡ stored then.def.query (base_now b.image)
+
+pub record InstallLaws : Type 0 where
+  -- what a view stores stays until its point changes
+  pub lasts : (trace more : List Event) (n : ℕ) (v w : View) → view_numbered (catalog_of trace) n ≡ Some v
+      → view_numbered (catalog_of (trace ++ more)) n ≡ Some w → w.point ≡ v.point → content (catalog_of (trace ++ more)) w ≡ content (catalog_of trace) v
+  pub stands : (trace : List Event) (n k : ℕ) (b : Begun) (w : View) → (session_of (state_of trace) n).begun ≡ Some b → b.view ≡ Some k
+      → view_numbered (catalog_of trace) k ≡ Some w → Stands (catalog_of trace) b w

@@ -1,0 +1,68 @@
+-- What is said of the catalogs that a trace goes through.
+use Rattle.std.specs.Prelude.{◌≡◌, ◌≤◌, Bool, List, None, Some, ℕ, ◌++◌, ◌==◌, ◌∷◌, option_and_then, option_map}
+use Rattle.wh_base.specs.declared.statements.Command.TheVariants.{Other}
+use Rattle.wh_base.specs.declared.statements.Event.{Event}
+use Rattle.wh_base.specs.declared.statements.RefreshView.{RefreshView}
+use Rattle.wh_base.specs.declared.statements.SessionStatement.TheVariants.{ReadOnly}
+use Rattle.wh_base.specs.declared.statements.Statement.TheVariants as about
+use Rattle.wh_base.specs.declared.views.ViewDef.{ViewDef}
+use Rattle.wh_base.specs.declared.tables.TableDef.{TableDef}
+use Rattle.def_history.specs.Catalog.{Catalog, View, base_at, defs_now, view_named, view_numbered}
+use Rattle.def_history.specs.History.{changes_of, maintained, touches_of}
+use Rattle.def_journal.specs.Journal.{state_of}
+use Rattle.def_journal.specs.State.{Begun}
+
+-- The catalog that a trace leaves.
+abbrev pub catalog_of : List Event → Catalog
+catalog_of trace = (state_of trace).catalog
+
+-- The event is one of this session.
+abbrev pub is_of : ℕ → Event → Bool
+is_of n e = e.entry.session == n
+
+-- One definition is the other but for ENABLE or DISABLE QUERY REWRITE: the same number, name, query, tables, text, method and ON COMMIT.
+abbrev pub IsSameView : ViewDef → ViewDef → Type 0
+IsSameView d e = e ≡ record d { rewrite = e.rewrite }
+
+-- All that a later catalog d keeps of an earlier one: the past up to the SCN of then, the views by their numbers, and the tables.
+pub record Precedes (c d : Catalog) : Type 0 where
+  pub scn : c.scn ≤ d.scn
+  pub base : (p : ℕ) → p ≤ c.scn → base_at d p ≡ base_at c p
+  pub changes : (table from p : ℕ) → p ≤ c.scn → changes_of d table from p ≡ changes_of c table from p
+  pub touches : (table from p : ℕ) → p ≤ c.scn → touches_of d table from p ≡ touches_of c table from p
+  pub maintenance : (table from p : ℕ) → p ≤ c.scn → maintained d table from p ≡ maintained c table from p
+  pub made : c.views_made ≤ d.views_made
+  pub same : (n : ℕ) (v w : View) → view_numbered c n ≡ Some v → view_numbered d n ≡ Some w → IsSameView v.def w.def
+  pub gone : (n : ℕ) → n ≤ c.views_made → view_numbered c n ≡ None → view_numbered d n ≡ None
+  pub tables : (later : List TableDef) × (defs_now d ≡ defs_now c ++ later)
+
+-- What the begin of a refresh of the view with this name keeps of a catalog.
+abbrev pub begun_over : Catalog → List ℕ → Begun
+begun_over c name =
+    record {
+      view = option_map (λ w. w.def.view) (view_named c name);
+      point = option_and_then (λ w. w.point) (view_named c name);
+      image = c;
+    }
+
+-- A front of the trace ends before the begin of a refresh by this session, and this is what that begin kept of its catalog.
+pub record HasBegun (trace : List Event) (n : ℕ) (b : Begun) : Type 0 where
+  pub front : List Event
+  pub event : Event
+  pub rest : List Event
+  pub asked : RefreshView
+  pub is : trace ≡ front ++ event ∷ rest
+  pub session : event.entry.session ≡ n
+  pub part : event.entry.part ≡ 1
+  pub command : event.command ≡ Other (about.Refresh asked)
+  pub kept : b ≡ begun_over (catalog_of front) asked.name
+
+-- A front of the trace ends before a SET TRANSACTION READ ONLY of this session, and this is its catalog.
+pub record HasOpened (trace : List Event) (n : ℕ) (image : Catalog) : Type 0 where
+  pub front : List Event
+  pub event : Event
+  pub rest : List Event
+  pub is : trace ≡ front ++ event ∷ rest
+  pub session : event.entry.session ≡ n
+  pub command : event.command ≡ Other (about.Session ReadOnly)
+  pub kept : image ≡ catalog_of front
