@@ -1,17 +1,18 @@
--- What a change of a table keeps of an image.
-use Rattle.std.proofs.Common.{◌≡◌, ◌∙◌, sym, ap, refl, subst, arith, ℕ, zero, suc, ◌+◌, ◌-◌, ◌<◌, ◌≤◌, ◌^◌, Bool, true, List, [], ◌∷◌, ◌++◌, length, Option, None, Some, IfSome, slice_get, slice_set, slice_index_or}
-use Rattle.std.proofs.lemmas.List.{length_push}
+-- What a change of a table keeps of the tables.
+use Rattle.std.proofs.Common.{◌≡◌, ◌∙◌, sym, ap, refl, subst, arith, ℕ, zero, suc, ◌+◌, ◌-◌, ◌<◌, ◌≤◌, ◌^◌, Bool, true, List, [], ◌∷◌, ◌++◌, length, Option, None, Some, IfSome, slice_get, slice_set, slice_index_or, zero-le}
+use Rattle.std.proofs.lemmas.List.{length_push, map-append}
 use Rattle.std.proofs.lemmas.List.Elements.{All-push}
 use Rattle.std.proofs.lemmas.Option.{slice_get-get_or}
 use Rattle.std.specs.List.{All}
 use Rattle.std.specs.Prelude.{Err, Ok, OnErr, OnOk, Result}
 use Rattle.wh_base.specs.Tables.{most_live}
 use Rattle.wh_base.specs.declared.tables.Part.{Part}
+use Rattle.wh_base.specs.declared.tables.TableDef.{TableDef}
 use Rattle.wh_base.specs.declared.values.Value.{Value}
-use Rattle.wh_table.specs.Imaged.{AreKept, with_change}
-use Rattle.wh_table.specs.Stored.{IsSmallRow, IsStored, Stored, deleted, inserted, last_scn, live_count, updated}
-use Rattle.wh_table.proofs.Counting.{all_from, each_from}
-use Rattle.wh_table.proofs.Keeping.{LivesAt, kept_deleted, kept_inserted, kept_updated, last_deleted, last_inserted, last_updated, live_version}
+use Rattle.wh_table.specs.Kept.{AreKept, LivesIn, defs_of, with_change}
+use Rattle.wh_table.specs.Stored.{IsSmallRow, IsStored, Stored, begun, deleted, inserted, last_scn, live_count, updated}
+use Rattle.wh_table.proofs.Counting.{all_from, each_from, each_get}
+use Rattle.wh_table.proofs.Keeping.{LivesAt, kept_begun, kept_deleted, kept_inserted, kept_updated, last_deleted, last_inserted, last_updated, live_version}
 use Rattle.wh_table.proofs.Ordered.{Each}
 
 none_not_some : {A : Type 0} (x : A) → None ≡ Some x → ⊥
@@ -70,73 +71,86 @@ second_each : (scn : ℕ) (tables : List Stored) → Each (IsSettled scn) tables
 second_each scn [] h = tt
 second_each scn (s ∷ tables) h = (h.0.1, second_each scn tables h.1)
 
-kept_change : (scn : ℕ) (change : Stored → Stored) (tables : List Stored) (parts : List Part) (n : ℕ) → AreKept scn tables parts
-    → ((s : Stored) → slice_get tables n ≡ Some s → IsSettled (scn + 1) s → IsSettled (scn + 1) (change s)) → AreKept scn (with_change n change tables) parts
-kept_change scn change tables parts n h f =
-    let all : Each (IsSettled (scn + 1)) (with_change n change tables) =
-      each_change (IsSettled (scn + 1)) change tables n (both_each (scn + 1) tables (each_from IsStored tables h.stored) (each_from (λ s. last_scn s.versions ≤ scn + 1) tables h.settled)) f in
+defs_change : (change : Stored → Stored) (tables : List Stored) (n : ℕ) → ((s : Stored) → (change s).def ≡ s.def) → defs_of (with_change n change tables) ≡ defs_of tables
+defs_change change [] n f = refl
+defs_change change (s ∷ tables) zero f = ap (λ d. d ∷ defs_of tables) (f s)
+defs_change change (s ∷ tables) (suc n) f = ap (λ ds. s.def ∷ ds) (defs_change change tables n f)
+
+kept_change : (scn : ℕ) (change : Stored → Stored) (tables : List Stored) (defs : List TableDef) (parts : List Part) (n : ℕ) → AreKept scn tables defs parts → ((s : Stored) → (change s).def ≡ s.def)
+    → ((s : Stored) → slice_get tables n ≡ Some s → IsSettled scn s → IsSettled scn (change s)) → AreKept scn (with_change n change tables) defs parts
+kept_change scn change tables defs parts n h same f =
+    let all : Each (IsSettled scn) (with_change n change tables) =
+    each_change (IsSettled scn) change tables n (both_each scn tables (each_from IsStored tables h.stored) (each_from (λ s. last_scn s.versions ≤ scn) tables h.settled)) f in
     record {
-      stored = all_from IsStored (with_change n change tables) (first_each (scn + 1) (with_change n change tables) all);
-      settled = all_from (λ s. last_scn s.versions ≤ scn + 1) (with_change n change tables) (second_each (scn + 1) (with_change n change tables) all);
+      stored = all_from IsStored (with_change n change tables) (first_each scn (with_change n change tables) all);
+      settled = all_from (λ s. last_scn s.versions ≤ scn) (with_change n change tables) (second_each scn (with_change n change tables) all);
       few = subst (λ m. m < 2 ^ 32) (sym (length_change change tables n)) h.few;
+      listed = h.listed ∙ sym (defs_change change tables n same);
       none = h.none;
     }
 
-pub kept_insert : (scn : ℕ) (tables : List Stored) (parts : List Part) (n : ℕ) (values : List Value) → AreKept scn tables parts → IfSome (slice_get tables n) (λ s. live_count s < most_live) → IsSmallRow values
-    → AreKept scn (with_change n (inserted (scn + 1) values) tables) parts
-kept_insert scn tables parts n values h room small =
-    kept_change scn (inserted (scn + 1) values) tables parts n h
-    (λ s e k. (kept_inserted s (scn + 1) values k.0 k.1 (if_there tables n s (λ s. live_count s < most_live) e room) small, last_inserted s (scn + 1) values k.1))
+pub kept_insert : (scn : ℕ) (tables : List Stored) (defs : List TableDef) (parts : List Part) (n : ℕ) (values : List Value) → AreKept scn tables defs parts
+    → IfSome (slice_get tables n) (λ s. live_count s < most_live) → IsSmallRow values → AreKept scn (with_change n (inserted scn values) tables) defs parts
+kept_insert scn tables defs parts n values h room small =
+    kept_change scn (inserted scn values) tables defs parts n h (λ s. refl)
+    (λ s e k. (kept_inserted s scn values k.0 k.1 (if_there tables n s (λ s. live_count s < most_live) e room) small, last_inserted s scn values k.1))
 
-pub kept_delete : (scn : ℕ) (tables : List Stored) (parts : List Part) (n place : ℕ) → AreKept scn tables parts → IfSome (slice_get tables n) (λ s. LivesAt s.versions place)
-    → AreKept scn (with_change n (deleted (scn + 1) place) tables) parts
-kept_delete scn tables parts n place h lives =
-    kept_change scn (deleted (scn + 1) place) tables parts n h
+pub kept_delete : (scn : ℕ) (tables : List Stored) (defs : List TableDef) (parts : List Part) (n place : ℕ) → AreKept scn tables defs parts → LivesIn tables n place
+    → AreKept scn (with_change n (deleted scn place) tables) defs parts
+kept_delete scn tables defs parts n place h lives =
+    kept_change scn (deleted scn place) tables defs parts n h (λ s. refl)
     (λ s e k. (let v = live_version s.versions place (if_there tables n s (λ s. LivesAt s.versions place) e lives) in
-    (kept_deleted s (scn + 1) place v.0 k.0 k.1 v.1.0 v.1.1, last_deleted s (scn + 1) place v.0 v.1.0 v.1.1 k.1)))
+    (kept_deleted s scn place v.0 k.0 k.1 v.1.0 v.1.1, last_deleted s scn place v.0 v.1.0 v.1.1 k.1)))
 
-pub kept_update : (scn : ℕ) (tables : List Stored) (parts : List Part) (n place : ℕ) (values : List Value) → AreKept scn tables parts → IfSome (slice_get tables n) (λ s. LivesAt s.versions place) → IsSmallRow values
-    → AreKept scn (with_change n (updated (scn + 1) place values) tables) parts
-kept_update scn tables parts n place values h lives small =
-    kept_change scn (updated (scn + 1) place values) tables parts n h
+pub kept_update : (scn : ℕ) (tables : List Stored) (defs : List TableDef) (parts : List Part) (n place : ℕ) (values : List Value) → AreKept scn tables defs parts → LivesIn tables n place → IsSmallRow values
+    → AreKept scn (with_change n (updated scn place values) tables) defs parts
+kept_update scn tables defs parts n place values h lives small =
+    kept_change scn (updated scn place values) tables defs parts n h (λ s. refl)
     (λ s e k. (let v = live_version s.versions place (if_there tables n s (λ s. LivesAt s.versions place) e lives) in
-    (kept_updated s (scn + 1) place values v.0 k.0 k.1 v.1.0 v.1.1 small, last_updated s (scn + 1) place values v.0 v.1.0 v.1.1 k.1)))
+    (kept_updated s scn place values v.0 k.0 k.1 v.1.0 v.1.1 small, last_updated s scn place values v.0 v.1.0 v.1.1 k.1)))
 
--- the table with this number wasn't changed after the next SCN
-pub settled_there : (scn : ℕ) (tables : List Stored) (parts : List Part) (n : ℕ) (s : Stored) → AreKept scn tables parts → slice_get tables n ≡ Some s → last_scn s.versions ≤ scn + 1
-settled_there scn tables parts n s h e = by tables n (each_from (λ s. last_scn s.versions ≤ scn + 1) tables h.settled) e
-  where
-    by : (tables : List Stored) (n : ℕ) → Each (λ s. last_scn s.versions ≤ scn + 1) tables → slice_get tables n ≡ Some s → last_scn s.versions ≤ scn + 1
-    by [] n k e = absurd (none_not_some s e)
-    by (u ∷ tables) zero k e = subst (λ t. last_scn t.versions ≤ scn + 1) (some_same u s e) k.0
-    by (u ∷ tables) (suc n) k e = by tables n k.1 e
+-- the table with this number wasn't changed after the SCN
+pub settled_there : (scn : ℕ) (tables : List Stored) (defs : List TableDef) (parts : List Part) (n : ℕ) (s : Stored) → AreKept scn tables defs parts → slice_get tables n ≡ Some s → last_scn s.versions ≤ scn
+settled_there scn tables defs parts n s h e = each_get (λ s. last_scn s.versions ≤ scn) tables n s e (each_from (λ s. last_scn s.versions ≤ scn) tables h.settled)
 
-pub settled_if : (scn : ℕ) (tables : List Stored) (parts : List Part) (n : ℕ) → AreKept scn tables parts → IfSome (slice_get tables n) (λ s. last_scn s.versions ≤ scn + 1)
-settled_if scn tables parts n h = by (slice_get tables n) refl
+pub settled_if : (scn : ℕ) (tables : List Stored) (defs : List TableDef) (parts : List Part) (n : ℕ) → AreKept scn tables defs parts → IfSome (slice_get tables n) (λ s. last_scn s.versions ≤ scn)
+settled_if scn tables defs parts n h = by (slice_get tables n) refl
   where
-    by : (o : Option Stored) → slice_get tables n ≡ o → IfSome o (λ s. last_scn s.versions ≤ scn + 1)
+    by : (o : Option Stored) → slice_get tables n ≡ o → IfSome o (λ s. last_scn s.versions ≤ scn)
     by None e = tt
-    by (Some s) e = settled_there scn tables parts n s h e
+    by (Some s) e = settled_there scn tables defs parts n s h e
 
-pub kept_raised : (scn : ℕ) (tables : List Stored) (parts : List Part) → AreKept scn tables parts → AreKept (scn + 1) tables parts
-kept_raised scn tables parts h = record {
+pub kept_raised : (scn : ℕ) (tables : List Stored) (defs : List TableDef) (parts : List Part) → AreKept scn tables defs parts → AreKept (scn + 1) tables defs parts
+kept_raised scn tables defs parts h = record {
   stored = h.stored;
   settled = λ k d l. (let before = h.settled k d l in omega (arith, before));
   few = h.few;
+  listed = h.listed;
   none = h.none;
 }
 
-pub kept_pushed : (scn : ℕ) (tables : List Stored) (parts : List Part) (s : Stored) → AreKept scn tables parts → IsStored s → last_scn s.versions ≤ scn + 1 → length tables < 2 ^ 32 - 1 → AreKept scn (tables ++ s ∷ []) parts
-kept_pushed scn tables parts s h stored settled few = record {
-  stored = All-push IsStored tables s h.stored stored;
-  settled = All-push (λ s. last_scn s.versions ≤ scn + 1) tables s h.settled settled;
-  few = (let pushed = length_push tables s in omega (arith, pushed, few));
+begun_settled : (scn : ℕ) (def : TableDef) → last_scn (begun def).versions ≤ scn
+begun_settled scn def = zero-le
+
+pub kept_pushed : (scn : ℕ) (tables : List Stored) (defs : List TableDef) (parts : List Part) (def : TableDef) → AreKept scn tables defs parts → length tables < 2 ^ 32 - 1
+    → AreKept scn (tables ++ begun def ∷ []) (defs ++ def ∷ []) parts
+kept_pushed scn tables defs parts def h few = record {
+  stored = All-push IsStored tables (begun def) h.stored (kept_begun def);
+  settled = All-push (λ s. last_scn s.versions ≤ scn) tables (begun def) h.settled (begun_settled scn def);
+  few = (let pushed = length_push tables (begun def) in omega (arith, pushed, few));
+  listed = ap (λ ds. ds ++ def ∷ []) h.listed ∙ sym (map-append (λ (s : Stored). s.def) tables (begun def ∷ []));
   none = h.none;
 }
 
-pub pushed_way : {T E : Type 0} (scn : ℕ) (tables new : List Stored) (parts : List Part) (s : Stored) (r : Result T E) → AreKept scn tables parts → IsStored s → last_scn s.versions ≤ scn + 1
-    → OnOk r (new ≡ tables ++ s ∷ []) → OnOk r (length tables < 2 ^ 32 - 1) → OnErr r (new ≡ tables) → AreKept scn new parts
-pushed_way scn tables new parts s (Ok u) h stored settled ok few err = subst (λ ts. AreKept scn ts parts) (sym ok) (kept_pushed scn tables parts s h stored settled few)
-pushed_way scn tables new parts s (Err e) h stored settled ok few err = subst (λ ts. AreKept scn ts parts) (sym err) h
+-- after `push_table`
+pub pushed_kept : (scn : ℕ) (tables new : List Stored) (defs all more : List TableDef) (parts : List Part) (s : Stored) (def : TableDef) → AreKept scn tables defs parts → s ≡ begun def → all ≡ defs ++ def ∷ [] → more ≡ all
+    → new ≡ tables ++ s ∷ [] → length tables < 2 ^ 32 - 1 → AreKept scn new more parts
+pushed_kept scn tables new defs all more parts s def h is listed shared pushed few =
+    let list : new ≡ tables ++ begun def ∷ [] = pushed ∙ ap (λ t. tables ++ t ∷ []) is in
+    let names : more ≡ defs ++ def ∷ [] = shared ∙ listed in
+    subst (λ ts. AreKept scn ts more parts) (sym list) (subst (λ ds. AreKept scn (tables ++ begun def ∷ []) ds parts) (sym names) (kept_pushed scn tables defs parts def h few))
 
-pub ruleset changing = (kept_raised, settled_if)
+pub kept_same : (scn : ℕ) (tables new : List Stored) (defs : List TableDef) (parts : List Part) → AreKept scn tables defs parts → new ≡ tables → AreKept scn new defs parts
+kept_same scn tables new defs parts h e = subst (λ ts. AreKept scn ts defs parts) (sym e) h
+
+pub ruleset changing = (kept_raised, settled_if, kept_same)

@@ -1,17 +1,18 @@
 -- What is true of each table stays true with each call.
-use Rattle.std.proofs.Common.{◌≡◌, ◌∙◌, sym, ap, refl, subst, arith, ℕ, zero, suc, ◌+◌, ◌<◌, ◌≤◌, max, Bool, true, false, cond, not, ◌&&◌, ◌==◌, List, [], ◌∷◌, ◌++◌, length, Option, None, Some, IsTrue, IfSome, IsSomeAnd, slice_get, nat_le, ◌-◌}
+use Rattle.std.proofs.Common.{◌≡◌, ◌∙◌, sym, ap, refl, subst, arith, ℕ, zero, suc, ◌+◌, ◌<◌, ◌≤◌, max, Bool, true, false, cond, not, ◌&&◌, ◌==◌, List, [], ◌∷◌, ◌++◌, length, Option, None, Some, IsTrue, IfSome, IsSomeAnd, slice_get, slice_set, nat_le, ◌-◌}
 use Rattle.std.proofs.lemmas.Bool.{le-leb, leb-true}
 use Rattle.std.proofs.lemmas.List.{length_push}
 use Rattle.std.specs.List.{All, filter, list_all}
+use Rattle.wh_base.specs.Lists.{option_case}
 use Rattle.wh_base.specs.Tables.{AreSmall, HaveRowids, live_rows, most_live}
 use Rattle.wh_base.specs.Values.{is_small}
 use Rattle.wh_base.specs.declared.tables.RowAt.{RowAt}
 use Rattle.wh_base.specs.declared.tables.TableDef.{TableDef}
 use Rattle.wh_base.specs.declared.values.Value.{Value}
-use Rattle.wh_segment.specs.Versions.{born_at, ended_at, is_live, rows_at}
+use Rattle.wh_segment.specs.Versions.{born_at, ended, ended_at, is_live, replaced_at, rows_at}
 use Rattle.wh_segment.specs.declared.version.Version.{Version}
 use Rattle.wh_table.specs.Stored.{IsHeld, IsNamed, IsSmallRow, IsStored, Stored, begun, deleted, given_at, inserted, last_scn, live_count, rowid_at, rows_living, updated}
-use Rattle.wh_table.proofs.Counting.{all_from, all_named_ended, count_append, count_ended, each_from, given_append, given_ended, last_append, last_ended}
+use Rattle.wh_table.proofs.Counting.{all_from, all_named_ended, count_append, count_ended, each_from, each_get, ended_is, given_append, given_ended, last_append, last_ended}
 use Rattle.wh_table.proofs.Living.{differ_filter, differ_from, differ_push, filter_apart, have_from, settled_count}
 use Rattle.wh_table.proofs.Ordered.{Differ, Each, each_append, each_weaker, keeps}
 use Rattle.wh_table.proofs.Seen.{IsRowOf, name_at, new_row, rowid_is, rows_deleted, rows_have, rows_inserted, rows_less, rows_named, rows_updated}
@@ -93,7 +94,7 @@ kept_inserted s scn values h settled room small_values =
     record {
       few = λ at. either (λ rows. length rows ≤ most_live) (nat_le scn at) _ _ _ (rows_inserted s scn values at) (λ f. few_more at f) (h.few at);
       differ = λ at. either HaveRowids (nat_le scn at) _ _ _ (rows_inserted s scn values at)
-      (λ f. have_from (rows_living at s ++ row ∷ []) (differ_push (rows_living at s) row (differ_from (rows_living at s) (h.differ at)) (inserted_apart s at h))) (h.differ at);
+          (λ f. have_from (rows_living at s ++ row ∷ []) (differ_push (rows_living at s) row (differ_from (rows_living at s) (h.differ at)) (inserted_apart s at h))) (h.differ at);
       small = λ at. either AreSmall (nat_le scn at) _ _ _ (rows_inserted s scn values at) (λ f. small_push (rows_living at s) row (h.small at) small_values) (h.small at);
       named = all_from (IsNamed (s.given + 1)) (inserted scn values s).versions (more_named s.given scn values s.versions (each_from (IsNamed s.given) s.versions h.named));
       given = λ at k. inserted_given s scn values at h k;
@@ -111,13 +112,13 @@ kept_inserted s scn values h settled room small_values =
 pub kept_deleted : (s : Stored) (scn place : ℕ) (v : Version) → IsStored s → last_scn s.versions ≤ scn → slice_get s.versions place ≡ Some v → is_live v ≡ true → IsStored (deleted scn place s)
 kept_deleted s scn place v h settled e live = record {
   few = λ at. either (λ rows. length rows ≤ most_live) (nat_le scn at) _ _ _ (rows_deleted s scn place v at h settled e live)
-  (λ f. (let less = few_filter (keeps v.rowid) (rows_living at s) in let few = h.few at in omega (arith, less, few))) (h.few at);
+      (λ f. (let less = few_filter (keeps v.rowid) (rows_living at s) in let few = h.few at in omega (arith, less, few))) (h.few at);
   differ = λ at. either HaveRowids (nat_le scn at) _ _ _ (rows_deleted s scn place v at h settled e live)
-  (λ f. have_from (filter (keeps v.rowid) (rows_living at s)) (differ_filter (keeps v.rowid) (rows_living at s) (differ_from (rows_living at s) (h.differ at)))) (h.differ at);
+      (λ f. have_from (filter (keeps v.rowid) (rows_living at s)) (differ_filter (keeps v.rowid) (rows_living at s) (differ_from (rows_living at s) (h.differ at)))) (h.differ at);
   small = λ at. either AreSmall (nat_le scn at) _ _ _ (rows_deleted s scn place v at h settled e live) (λ f. small_filter (keeps v.rowid) (rows_living at s) (h.small at)) (h.small at);
   named = all_from (IsNamed s.given) (ended_at place scn s.versions) (all_named_ended s.given s.versions place scn v e (each_from (IsNamed s.given) s.versions h.named));
   given = λ at k.
-  (let last = last_ended s.versions place scn v e live in let before : last_scn s.versions ≤ at = omega (arith, last, k) in given_ended at s.versions place scn v e ∙ h.given at before);
+      (let last = last_ended s.versions place scn v e live in let before : last_scn s.versions ≤ at = omega (arith, last, k) in given_ended at s.versions place scn v e ∙ h.given at before);
 }
 
 -- ---- a row with other values
@@ -151,16 +152,16 @@ kept_updated s scn place values v h settled e live small_values =
     let last : v.rowid ≤ s.given = name.last in
     record {
       few = λ at. either (λ rows. length rows ≤ most_live) (nat_le scn at) _ _ _ (rows_updated s scn place values v at h settled e live)
-      (λ f. few_same at (rows_less s scn place v at h settled e live f)) (h.few at);
+          (λ f. few_same at (rows_less s scn place v at h settled e live f)) (h.few at);
       differ = λ at. either HaveRowids (nat_le scn at) _ _ _ (rows_updated s scn place values v at h settled e live)
-      (λ f. have_from (filter (keeps v.rowid) (rows_living at s) ++ row ∷ [])
-      (differ_push (filter (keeps v.rowid) (rows_living at s)) row (differ_filter (keeps v.rowid) (rows_living at s) (differ_from (rows_living at s) (h.differ at)))
-      (subst (λ n. Each (λ x. x.rowid ≡ n → ⊥) (filter (keeps v.rowid) (rows_living at s))) (sym id) (filter_apart v.rowid (rows_living at s))))) (h.differ at);
+          (λ f. have_from (filter (keeps v.rowid) (rows_living at s) ++ row ∷ [])
+          (differ_push (filter (keeps v.rowid) (rows_living at s)) row (differ_filter (keeps v.rowid) (rows_living at s) (differ_from (rows_living at s) (h.differ at)))
+          (subst (λ n. Each (λ x. x.rowid ≡ n → ⊥) (filter (keeps v.rowid) (rows_living at s))) (sym id) (filter_apart v.rowid (rows_living at s))))) (h.differ at);
       small = λ at. either AreSmall (nat_le scn at) _ _ _ (rows_updated s scn place values v at h settled e live)
-      (λ f. small_push (filter (keeps v.rowid) (rows_living at s)) row (small_filter (keeps v.rowid) (rows_living at s) (h.small at)) small_values) (h.small at);
+          (λ f. small_push (filter (keeps v.rowid) (rows_living at s)) row (small_filter (keeps v.rowid) (rows_living at s) (h.small at)) small_values) (h.small at);
       named = all_from (IsNamed s.given) (updated scn place values s).versions
-      (each_append (IsNamed s.given) (ended_at place scn s.versions) (born_at scn (rowid_at s place) 0 values ∷ []) (all_named_ended s.given s.versions place scn v e (each_from (IsNamed s.given) s.versions h.named))
-      (record { first = omega (arith, first, id); last = omega (arith, last, id); unmarked = refl }, tt));
+          (each_append (IsNamed s.given) (ended_at place scn s.versions) (born_at scn (rowid_at s place) 0 values ∷ []) (all_named_ended s.given s.versions place scn v e (each_from (IsNamed s.given) s.versions h.named))
+          (record { first = omega (arith, first, id); last = omega (arith, last, id); unmarked = refl }, tt));
       given = λ at k. updated_given s scn place values v at h e live k;
     }
   where
@@ -207,42 +208,58 @@ live_version vs place h = by (slice_get vs place) refl h
 abbrev pub stored_as : TableDef → List Version → ℕ → Stored
 stored_as def versions given = record { def = def; versions = versions; given = given }
 
-pub held_insert : (live : ℕ) (def : TableDef) (vs ws : List Version) (given scn : ℕ) (values : List Value) → IsHeld live (stored_as def vs given)
+pub held_insert : (live changed : ℕ) (def : TableDef) (vs ws : List Version) (given scn : ℕ) (values : List Value) → IsHeld live changed (stored_as def vs given)
     → last_scn vs ≤ scn → live_count (stored_as def vs given) < most_live → IsSmallRow values → ws ≡ vs ++ born_at scn (given + 1) 0 values ∷ []
-    → IsHeld (live + 1) (stored_as def ws (given + 1))
-held_insert live def vs ws given scn values h settled room small e = subst (λ us. IsHeld (live + 1) (stored_as def us (given + 1))) (sym e) (record {
-    stored = kept_inserted (stored_as def vs given) scn values h.stored settled room small;
-    counted = ap (λ n. n + 1) h.counted ∙ sym (count_inserted (stored_as def vs given) scn values);
-  })
+    → IsHeld (live + 1) scn (stored_as def ws (given + 1))
+held_insert live changed def vs ws given scn values h settled room small e =
+    let last : last_scn (vs ++ born_at scn (given + 1) 0 values ∷ []) ≡ max (last_scn vs) scn = inserted_last vs scn (given + 1) values in
+    subst (λ us. IsHeld (live + 1) scn (stored_as def us (given + 1))) (sym e) (record {
+      stored = kept_inserted (stored_as def vs given) scn values h.stored settled room small;
+      counted = ap (λ n. n + 1) h.counted ∙ sym (count_inserted (stored_as def vs given) scn values);
+      latest = omega (arith, last, settled);
+    })
 
-pub held_delete : (live : ℕ) (def : TableDef) (vs ws : List Version) (given scn place : ℕ) → IsHeld live (stored_as def vs given)
-    → last_scn vs ≤ scn → LivesAt vs place → ws ≡ ended_at place scn vs → IsHeld (live - 1) (stored_as def ws given)
-held_delete live def vs ws given scn place h settled there e =
+pub held_delete : (live changed : ℕ) (def : TableDef) (vs ws : List Version) (given scn place : ℕ) → IsHeld live changed (stored_as def vs given)
+    → last_scn vs ≤ scn → LivesAt vs place → ws ≡ ended_at place scn vs → IsHeld (live - 1) scn (stored_as def ws given)
+held_delete live changed def vs ws given scn place h settled there e =
     let v = live_version vs place there in
     let less = count_deleted (stored_as def vs given) scn place v.0 v.1.0 v.1.1 in
     let all = h.counted in
-    subst (λ us. IsHeld (live - 1) (stored_as def us given)) (sym e) (record {
+    let last : last_scn (ended_at place scn vs) ≡ max (last_scn vs) scn = last_ended vs place scn v.0 v.1.0 v.1.1 in
+    subst (λ us. IsHeld (live - 1) scn (stored_as def us given)) (sym e) (record {
       stored = kept_deleted (stored_as def vs given) scn place v.0 h.stored settled v.1.0 v.1.1;
       counted = omega (arith, less, all);
+      latest = omega (arith, last, settled);
     })
 
-pub held_update : (live : ℕ) (def : TableDef) (vs cs us ws : List Version) (given scn place rowid : ℕ) (values : List Value) → IsHeld live (stored_as def vs given)
-    → last_scn vs ≤ scn → LivesAt vs place → IsSmallRow values → cs ≡ vs → IfSome (slice_get cs place) (λ v. rowid ≡ v.rowid) → us ≡ ended_at place scn cs → ws ≡ us ++ born_at scn rowid 0 values ∷ []
-    → IsHeld live (stored_as def ws given)
-held_update live def vs cs us ws given scn place rowid values h settled there small copied named ends begins =
+-- what a segment makes of the version at a place is what the definition of the call says
+replaced_is : (def : TableDef) (vs : List Version) (given scn place : ℕ) (values : List Value) → All (IsNamed given) vs → LivesAt vs place
+    → replaced_at place scn values vs ≡ (updated scn place values (stored_as def vs given)).versions
+replaced_is def vs given scn place values named there =
     let v = live_version vs place there in
-    let has_name : IfSome (slice_get vs place) (λ v. rowid ≡ v.rowid) = subst (λ xs. IfSome (slice_get xs place) (λ v. rowid ≡ v.rowid)) copied named in
-    let is_name : rowid ≡ v.0.rowid = subst (λ o. IfSome o (λ v. rowid ≡ v.rowid)) v.1.0 has_name in
-    let name : rowid ≡ rowid_at (stored_as def vs given) place = is_name ∙ sym (rowid_is (stored_as def vs given) place v.0 v.1.0) in
-    let ended : us ≡ ended_at place scn vs = ends ∙ ap (ended_at place scn) copied in
-    let same : ws ≡ ended_at place scn vs ++ born_at scn (rowid_at (stored_as def vs given) place) 0 values ∷ [] = begins ∙ (λ i. ended i ++ born_at scn (name i) 0 values ∷ []) in
-    subst (λ xs. IsHeld live (stored_as def xs given)) (sym same) (record {
+    let unmarked : v.0.part ≡ 0 = (each_get (IsNamed given) vs place v.0 v.1.0 (each_from (IsNamed given) vs named)).unmarked in
+    let id : rowid_at (stored_as def vs given) place ≡ v.0.rowid = rowid_is (stored_as def vs given) place v.0 v.1.0 in
+    ap (λ o. option_case o vs (λ w. slice_set vs place (ended scn w) ++ born_at scn w.rowid w.part values ∷ [])) v.1.0
+    ∙ (λ i. slice_set vs place (ended scn v.0) ++ born_at scn (sym id i) (unmarked i) values ∷ [])
+    ∙ ap (λ us. us ++ born_at scn (rowid_at (stored_as def vs given) place) 0 values ∷ []) (sym (ended_is vs place scn v.0 v.1.0))
+
+pub held_update : (live changed : ℕ) (def : TableDef) (vs ws : List Version) (given scn place : ℕ) (values : List Value) → IsHeld live changed (stored_as def vs given)
+    → last_scn vs ≤ scn → LivesAt vs place → IsSmallRow values → ws ≡ replaced_at place scn values vs → IsHeld live scn (stored_as def ws given)
+held_update live changed def vs ws given scn place values h settled there small e =
+    let v = live_version vs place there in
+    let last = updated_last (stored_as def vs given) scn place values v.0 v.1.0 v.1.1 in
+    subst (λ xs. IsHeld live scn (stored_as def xs given)) (sym (e ∙ replaced_is def vs given scn place values h.stored.named there)) (record {
       stored = kept_updated (stored_as def vs given) scn place values v.0 h.stored settled v.1.0 v.1.1 small;
       counted = h.counted ∙ sym (count_updated (stored_as def vs given) scn place values v.0 v.1.0 v.1.1);
+      latest = omega (arith, last, settled);
     })
 
-pub some_live : (live : ℕ) (def : TableDef) (vs : List Version) (given scn place : ℕ) → IsHeld live (stored_as def vs given) → LivesAt vs place → 1 ≤ live
-some_live live def vs given scn place h there =
+pub updated_is : (live changed : ℕ) (def : TableDef) (vs ws : List Version) (given scn place : ℕ) (values : List Value) → IsHeld live changed (stored_as def vs given)
+    → LivesAt vs place → ws ≡ replaced_at place scn values vs → stored_as def ws given ≡ updated scn place values (stored_as def vs given)
+updated_is live changed def vs ws given scn place values h there e = ap (λ us. stored_as def us given) (e ∙ replaced_is def vs given scn place values h.stored.named there)
+
+pub some_live : (live changed : ℕ) (def : TableDef) (vs : List Version) (given scn place : ℕ) → IsHeld live changed (stored_as def vs given) → LivesAt vs place → 1 ≤ live
+some_live live changed def vs given scn place h there =
     let v = live_version vs place there in
     let less = count_deleted (stored_as def vs given) scn place v.0 v.1.0 v.1.1 in
     let all = h.counted in

@@ -94,9 +94,10 @@ apart_from x (y ∷ ys) h = ((λ e. h 0 (omega arith) (ap Some (sym e))), apart_
 
 pub differ_from : (xs : List RowAt) → HaveRowids xs → Differ xs
 differ_from [] h = tt
-differ_from (x ∷ xs) h =
-    (apart_from x xs (λ n l e. h 0 (suc n) (omega arith) (omega (arith, l)) (sym e)),
-    differ_from xs (λ m n l k e. h (suc m) (suc n) (omega (arith, l)) (omega (arith, k)) e))
+differ_from (x ∷ xs) h = (
+  apart_from x xs (λ n l e. h 0 (suc n) (omega arith) (omega (arith, l)) (sym e)),
+  differ_from xs (λ m n l k e. h (suc m) (suc n) (omega (arith, l)) (omega (arith, k)) e),
+)
 
 apart_at : (x : RowAt) (xs : List RowAt) (n : ℕ) → n < length xs → Each (Apart x) xs → slice_get (map (λ r. r.rowid) xs) n ≡ Some x.rowid → ⊥
 apart_at x [] n l h e = none_not_some x.rowid e
@@ -198,9 +199,14 @@ row_there at v h live = by v.values refl
     by : (values : Option (List Value)) → v.values ≡ values
         → (values : List Value) × ((v.values ≡ Some values) × (row_at at v ≡ Some (record { rowid = v.rowid; mark = v.part; values = values })))
     by None e = absurd (and_no (is_none v.died) (sym (ap (λ o. is_none v.died && is_some o) e) ∙ live))
-    by (Some ws) e =
-        (ws, (e, ap (λ b. option_case v.values None (λ us. where_true b (record { rowid = v.rowid; mark = v.part; values = us }))) (settled at v h ∙ live)
-        ∙ ap (λ o. option_case o None (λ us. Some (record { rowid = v.rowid; mark = v.part; values = us }))) e))
+    by (Some ws) e = (
+      ws,
+      (
+        e,
+        ap (λ b. option_case v.values None (λ us. where_true b (record { rowid = v.rowid; mark = v.part; values = us }))) (settled at v h ∙ live)
+            ∙ ap (λ o. option_case o None (λ us. Some (record { rowid = v.rowid; mark = v.part; values = us }))) e,
+      ),
+    )
 
 pub live_row : (at : ℕ) (vs : List Version) (place : ℕ) (v : Version) → last_scn vs ≤ at → slice_get vs place ≡ Some v → is_live v ≡ true
     → (values : List Value) × ((v.values ≡ Some values) × (slice_get (rows_at at vs) place ≡ Some (Some (record { rowid = v.rowid; mark = v.part; values = values }))))

@@ -1,4 +1,4 @@
--- What stands at a place of a table of an image.
+-- What stands at a place of a table.
 use Rattle.std.proofs.Common.{◌≡◌, ◌∙◌, sym, ap, refl, subst, ℕ, zero, suc, ◌<◌, Bool, true, false, List, [], ◌∷◌, length, map, Option, None, Some, IsTrue, IsSome, IfSome, IsSomeAnd, ◌↔◌, is_some, slice_get, unwrap_or}
 use Rattle.std.proofs.lemmas.List.{length-map, nil_from_length}
 use Rattle.std.specs.List.{All}
@@ -10,7 +10,7 @@ use Rattle.wh_base.specs.declared.values.Value.{Value}
 use Rattle.wh_segment.proofs.Lawful.{lawful}
 use Rattle.wh_segment.specs.Versions.{is_visible, row_at, rows_at, visible_at}
 use Rattle.wh_segment.specs.declared.version.Version.{Version}
-use Rattle.wh_table.specs.Imaged.{no_key, no_part, tables_at}
+use Rattle.wh_table.specs.Kept.{no_key, no_part, tables_at}
 use Rattle.wh_table.specs.Stored.{IsNamed, IsStored, Stored, places_at}
 use Rattle.wh_table.proofs.Counting.{each_from, each_get}
 
@@ -47,7 +47,7 @@ is_some_iff o = ((λ h. h), (λ h. h))
 
 pub lives_is : (tables : List Stored) (at n place : ℕ) (s : Stored) → slice_get tables n ≡ Some s → IsTrue (visible_at s.versions place at) ↔ IsSome (place_of (tables_at at tables) n place)
 lives_is tables at n place s e =
-    subst (λ o. IsTrue (visible_at s.versions place at) ↔ IsSome o) (sym (place_is tables at n place s e) )
+    subst (λ o. IsTrue (visible_at s.versions place at) ↔ IsSome o) (sym (place_is tables at n place s e))
     (subst (λ b. IsTrue b ↔ IsSome (option_case (slice_get s.versions place) None (row_at at))) (sym (lawful.visible s.versions place at ∙ ap is_some (at_place at s.versions place)))
     (is_some_iff (option_case (slice_get s.versions place) None (row_at at))))
 

@@ -1,6 +1,6 @@
 -- The rows of a table at an SCN after each change, and so what the table is then.
-use Rattle.std.proofs.Common.{◌≡◌, ◌∙◌, sym, ap, refl, subst, arith, ℕ, zero, suc, ◌+◌, ◌<◌, ◌≤◌, max, Bool, true, false, cond, not, ◌||◌, ◌==◌, List, [], ◌∷◌, ◌++◌, map, length, Option, None, Some, slice_get, slice_set, nat_le, leb}
-use Rattle.std.proofs.lemmas.Bool.{leb-true, eqb-true}
+use Rattle.std.proofs.Common.{◌≡◌, ◌∙◌, sym, ap, refl, subst, arith, ℕ, zero, suc, ◌+◌, ◌<◌, ◌≤◌, max, Bool, true, false, cond, not, ◌||◌, ◌==◌, List, [], ◌∷◌, ◌++◌, map, length, Option, None, Some, IfSome, IsSomeAnd, IsTrue, slice_get, slice_set, nat_le, leb}
+use Rattle.std.proofs.lemmas.Bool.{le-leb, leb-true, lt-leb, eqb-true}
 use Rattle.std.proofs.lemmas.List.{map-append}
 use Rattle.std.specs.List.{All, filter}
 use Rattle.wh_base.specs.Lists.{change_where, option_case, where_true}
@@ -10,13 +10,13 @@ use Rattle.wh_base.specs.declared.tables.TableDef.{TableDef}
 use Rattle.wh_base.specs.declared.values.Value.{Value}
 use Rattle.def_meaning.specs.Joined as meaning
 use Rattle.wh_segment.proofs.Lawful.{lawful}
-use Rattle.wh_segment.specs.Versions.{born_at, ended_at, is_live, rows_at}
+use Rattle.wh_segment.specs.Versions.{born_at, ended_at, is_live, row_at as version_row, rows_at}
 use Rattle.wh_segment.specs.declared.version.Version.{Version}
-use Rattle.wh_table.specs.Imaged.{with_change}
+use Rattle.wh_table.specs.Kept.{LivesIn, with_change}
 use Rattle.wh_table.specs.Laws.{Laws}
-use Rattle.wh_table.specs.Stored.{IsNamed, IsStored, Stored, base_seen, deleted, deletion, given_at, inserted, insertion, last_scn, places_at, plain_row, rowid_at, rows_living, seen, update, updated}
+use Rattle.wh_table.specs.Stored.{IsNamed, IsStored, Stored, base_seen, changed_at, deleted, deletion, given_at, inserted, insertion, last_scn, places_at, plain_row, rowid_at, rows_living, seen, update, updated}
 use Rattle.wh_table.proofs.Counting.{each_from, each_get, given_append, given_ended}
-use Rattle.wh_table.proofs.Living.{differ_from, each_version, has_place, live_append, live_append_none, live_less, live_row, live_without, settled_count}
+use Rattle.wh_table.proofs.Living.{differ_from, each_version, has_place, live_append, live_append_none, live_less, live_row, live_without, settled as settled_row, settled_count}
 use Rattle.wh_table.proofs.Ordered.{Differ, Each, each_sort, each_weaker, has, has_sort, keeps, put_last, put_replaced, replaced, sort, sort_append, sorted_filter, sorted_rises}
 
 -- ---- names
@@ -143,19 +143,19 @@ inserted_then s scn values at h settled f =
     let below : Each (λ r. r.rowid < s.given + 1) (rows_living at s) = each_weaker (IsRowOf s.given) (λ r. r.rowid < s.given + 1) (λ r n. (let least : r.rowid ≤ s.given = n.last in omega (arith, least))) (rows_living at s) (rows_named s at h) in
     let row : RowAt = new_row (s.given + 1) values in
     let rows : map plain_row (sort [] (rows_living at s ++ row ∷ [])) ≡ map plain_row (sort [] (rows_living at s)) ++ plain_row row ∷ [] =
-      ap (map plain_row) (sort_append [] (rows_living at s) row ∙ put_last row (sort [] (rows_living at s)) (each_sort (λ r. r.rowid < s.given + 1) [] (rows_living at s) tt below))
-      ∙ map-append plain_row (sort [] (rows_living at s)) (row ∷ []) in
+    ap (map plain_row) (sort_append [] (rows_living at s) row ∙ put_last row (sort [] (rows_living at s)) (each_sort (λ r. r.rowid < s.given + 1) [] (rows_living at s) tt below))
+    ∙ map-append plain_row (sort [] (rows_living at s)) (row ∷ []) in
     let given : given_at at (inserted scn values s).versions ≡ given_at at s.versions + 1 =
-      given_append at s.versions (born_at scn (s.given + 1) 0 values) ∙ ap (λ b. max (given_at at s.versions) (cond b (s.given + 1) 0)) f ∙ omega (arith, all) in
+    given_append at s.versions (born_at scn (s.given + 1) 0 values) ∙ ap (λ b. max (given_at at s.versions) (cond b (s.given + 1) 0)) f ∙ omega (arith, all) in
     table_of s.def _ _ _ _ rows given
 
 deleted_then : (s : Stored) (scn place : ℕ) (v : Version) (at : ℕ) → IsStored s → slice_get s.versions place ≡ Some v
     → table_with s (filter (keeps v.rowid) (rows_living at s)) (given_at at (deleted scn place s).versions) ≡ table_after (seen at s) (deletion s place ∷ [])
 deleted_then s scn place v at h e =
     let rows : map plain_row (sort [] (filter (keeps v.rowid) (rows_living at s))) ≡ filter (λ r. not (r.rowid == rowid_at s place)) (map plain_row (sort [] (rows_living at s))) =
-      ap (map plain_row) (sorted_filter v.rowid (rows_living at s) (differ_from (rows_living at s) (h.differ at)))
-      ∙ plain_filter v.rowid (sort [] (rows_living at s))
-      ∙ ap (λ id. filter (λ r. not (r.rowid == id)) (map plain_row (sort [] (rows_living at s)))) (sym (rowid_is s place v e)) in
+    ap (map plain_row) (sorted_filter v.rowid (rows_living at s) (differ_from (rows_living at s) (h.differ at)))
+    ∙ plain_filter v.rowid (sort [] (rows_living at s))
+    ∙ ap (λ id. filter (λ r. not (r.rowid == id)) (map plain_row (sort [] (rows_living at s)))) (sym (rowid_is s place v e)) in
     let given : given_at at (deleted scn place s).versions ≡ given_at at s.versions + 0 = given_ended at s.versions place scn v e ∙ omega arith in
     table_of s.def _ _ _ _ rows given
 
@@ -171,16 +171,16 @@ updated_then s scn place values v at h settled e live f =
     let differ : Differ (rows_living at s) = differ_from (rows_living at s) (h.differ at) in
     let found : has v.rowid (sort [] (rows_living at s)) ≡ true = has_sort v.rowid [] (rows_living at s) (ap (λ b. b || false) (rows_have s scn place v at settled e live f)) in
     let rows : map plain_row (sort [] (filter (keeps v.rowid) (rows_living at s) ++ row ∷ [])) ≡ change_where (λ y. y.rowid == rowid_at s place) (revalued values) (map plain_row (sort [] (rows_living at s))) =
-      ap (map plain_row) (sort_append [] (filter (keeps v.rowid) (rows_living at s)) row
-      ∙ ap (λ rs. sort rs (row ∷ [])) (sorted_filter v.rowid (rows_living at s) differ)
-      ∙ put_replaced v.rowid row (sort [] (rows_living at s)) id (sorted_rises (rows_living at s) differ) found)
-      ∙ plain_replaced v.rowid row (sort [] (rows_living at s)) id
-      ∙ ap (λ n. change_where (λ y. y.rowid == n) (revalued values) (map plain_row (sort [] (rows_living at s)))) (sym id) in
+    ap (map plain_row) (sort_append [] (filter (keeps v.rowid) (rows_living at s)) row
+    ∙ ap (λ rs. sort rs (row ∷ [])) (sorted_filter v.rowid (rows_living at s) differ)
+    ∙ put_replaced v.rowid row (sort [] (rows_living at s)) id (sorted_rises (rows_living at s) differ) found)
+    ∙ plain_replaced v.rowid row (sort [] (rows_living at s)) id
+    ∙ ap (λ n. change_where (λ y. y.rowid == n) (revalued values) (map plain_row (sort [] (rows_living at s)))) (sym id) in
     let given : given_at at (updated scn place values s).versions ≡ given_at at s.versions + 0 =
-      given_append at (ended_at place scn s.versions) (born_at scn (rowid_at s place) 0 values)
-      ∙ ap (λ n. max n (cond (nat_le scn at) (rowid_at s place) 0)) (given_ended at s.versions place scn v e)
-      ∙ ap (λ b. max (given_at at s.versions) (cond b (rowid_at s place) 0)) f
-      ∙ omega (arith, all, name, id) in
+    given_append at (ended_at place scn s.versions) (born_at scn (rowid_at s place) 0 values)
+    ∙ ap (λ n. max n (cond (nat_le scn at) (rowid_at s place) 0)) (given_ended at s.versions place scn v e)
+    ∙ ap (λ b. max (given_at at s.versions) (cond b (rowid_at s place) 0)) f
+    ∙ omega (arith, all, name, id) in
     table_of s.def _ _ _ _ rows given
 
 -- before the SCN of the birth the rowid isn't given yet
@@ -257,6 +257,78 @@ changed_base change [] at n s e = refl
 changed_base change (t ∷ tables) at zero s e = ap (λ u. seen at (change u) ∷ base_seen at tables) (some_same t s e)
 changed_base change (t ∷ tables) at (suc n) s e = ap (λ rest. seen at t ∷ rest) (changed_base change tables at n s e)
 
+-- ---- before a change, and after the last one
+
+same_base : (change : Stored → Stored) (tables : List Stored) (at n : ℕ) → ((s : Stored) → slice_get tables n ≡ Some s → seen at (change s) ≡ seen at s)
+    → base_seen at (with_change n change tables) ≡ base_seen at tables
+same_base change [] at n f = refl
+same_base change (t ∷ tables) at zero f = ap (λ u. u ∷ base_seen at tables) (f t refl)
+same_base change (t ∷ tables) at (suc n) f = ap (λ rest. seen at t ∷ rest) (same_base change tables at n f)
+
+not_yet : (scn at : ℕ) → at < scn → nat_le scn at ≡ false
+not_yet scn at less = lt-leb scn at less
+
+-- the table with a number is as its calls leave it
+stored_in : (tables : List Stored) (n : ℕ) (s : Stored) → All IsStored tables → slice_get tables n ≡ Some s → IsStored s
+stored_in tables n s h e = each_get IsStored tables n s e (each_from IsStored tables h)
+
+settled_in : (tables : List Stored) (scn n : ℕ) (s : Stored) → All (λ s. last_scn s.versions ≤ scn) tables → slice_get tables n ≡ Some s → last_scn s.versions ≤ scn
+settled_in tables scn n s h e = each_get (λ s. last_scn s.versions ≤ scn) tables n s e (each_from (λ s. last_scn s.versions ≤ scn) tables h)
+
+version_in : (tables : List Stored) (n place : ℕ) (s : Stored) → LivesIn tables n place → slice_get tables n ≡ Some s → (v : Version) × ((slice_get s.versions place ≡ Some v) × (is_live v ≡ true))
+version_in tables n place s h e = by (slice_get s.versions place) refl (subst (λ o. IfSome o (λ t. IsSomeAnd (slice_get t.versions place) (λ v. IsTrue (is_live v)))) e h)
+  where
+    by : (o : Option Version) → slice_get s.versions place ≡ o → IsSomeAnd o (λ v. IsTrue (is_live v)) → (v : Version) × ((slice_get s.versions place ≡ Some v) × (is_live v ≡ true))
+    by None f k = absurd k
+    by (Some v) f k = (v, (f, k))
+
+inserts_later : (tables : List Stored) (scn at n : ℕ) (values : List Value) → All IsStored tables → All (λ s. last_scn s.versions ≤ scn) tables → at < scn
+    → base_seen at (with_change n (inserted scn values) tables) ≡ base_seen at tables
+inserts_later tables scn at n values h k less =
+    same_base (inserted scn values) tables at n
+    (λ s e. inserts s scn values at (stored_in tables n s h e) (settled_in tables scn n s k e)
+    ∙ ap (λ b. cond b (table_after (seen at s) (insertion s values ∷ [])) (seen at s)) (not_yet scn at less))
+
+deletes_later : (tables : List Stored) (scn at n place : ℕ) → All IsStored tables → All (λ s. last_scn s.versions ≤ scn) tables → LivesIn tables n place → at < scn
+    → base_seen at (with_change n (deleted scn place) tables) ≡ base_seen at tables
+deletes_later tables scn at n place h k lives less =
+    same_base (deleted scn place) tables at n
+    (λ s e. (let v = version_in tables n place s lives e in
+    deletes s scn place v.0 at (stored_in tables n s h e) (settled_in tables scn n s k e) v.1.0 v.1.1
+    ∙ ap (λ b. cond b (table_after (seen at s) (deletion s place ∷ [])) (seen at s)) (not_yet scn at less)))
+
+updates_later : (tables : List Stored) (scn at n place : ℕ) (values : List Value) → All IsStored tables → All (λ s. last_scn s.versions ≤ scn) tables → LivesIn tables n place → at < scn
+    → base_seen at (with_change n (updated scn place values) tables) ≡ base_seen at tables
+updates_later tables scn at n place values h k lives less =
+    same_base (updated scn place values) tables at n
+    (λ s e. (let v = version_in tables n place s lives e in
+    updates s scn place values v.0 at (stored_in tables n s h e) (settled_in tables scn n s k e) v.1.0 v.1.1
+    ∙ ap (λ b. cond b (table_after (seen at s) (update s place values ∷ [])) (seen at s)) (not_yet scn at less)))
+
+row_rests : (from to : ℕ) (v : Version) → changed_at v ≤ from → from ≤ to → version_row from v ≡ version_row to v
+row_rests from to v h later =
+    ap (λ b. option_case v.values None (λ ws. where_true b (record { rowid = v.rowid; mark = v.part; values = ws })))
+    (settled_row from v h ∙ sym (settled_row to v (omega (arith, h, later))))
+
+rows_rest : (from to : ℕ) (vs : List Version) → last_scn vs ≤ from → from ≤ to → rows_at from vs ≡ rows_at to vs
+rows_rest from to [] h later = refl
+rows_rest from to (v ∷ vs) h later = (λ i. row_rests from to v (omega (arith, h)) later i ∷ rows_rest from to vs (omega (arith, h)) later i)
+
+born_by : (at : ℕ) (v : Version) → changed_at v ≤ at → nat_le v.born at ≡ true
+born_by at v h = le-leb v.born at (omega (arith, h))
+
+given_rests : (from to : ℕ) (vs : List Version) → last_scn vs ≤ from → from ≤ to → given_at from vs ≡ given_at to vs
+given_rests from to [] h later = refl
+given_rests from to (v ∷ vs) h later =
+    let now : changed_at v ≤ from = omega (arith, h) in
+    let then : changed_at v ≤ to = omega (arith, now, later) in
+    ap (λ b. max (cond b v.rowid 0) (given_at from vs)) (born_by from v now ∙ sym (born_by to v then))
+    ∙ ap (λ n. max (cond (nat_le v.born to) v.rowid 0) n) (given_rests from to vs (omega (arith, h)) later)
+
+rests : (s : Stored) (from to : ℕ) → last_scn s.versions ≤ from → from ≤ to → seen from s ≡ seen to s
+rests s from to h later =
+    table_of s.def _ _ _ _ (ap (λ ps. map plain_row (sort [] (live_rows ps))) (rows_rest from to s.versions h later)) (given_rests from to s.versions h later)
+
 pub laws_hold : Laws
 laws_hold = record {
   inserts = inserts;
@@ -265,4 +337,8 @@ laws_hold = record {
   changes = changed_base;
   settles = λ s at h. settled_count at s.versions h;
   shows = λ tables at n h. shown tables at n (each_from IsStored tables h);
+  inserts_later = inserts_later;
+  deletes_later = deletes_later;
+  updates_later = updates_later;
+  rests = rests;
 }

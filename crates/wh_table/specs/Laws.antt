@@ -6,7 +6,7 @@ use Rattle.wh_base.specs.declared.values.Value.{Value}
 use Rattle.def_meaning.specs.Joined as meaning
 use Rattle.wh_segment.specs.Versions.{is_live}
 use Rattle.wh_segment.specs.declared.version.Version.{Version}
-use Rattle.wh_table.specs.Imaged.{tables_at, with_change}
+use Rattle.wh_table.specs.Kept.{LivesIn, tables_at, with_change}
 use Rattle.wh_table.specs.Stored.{IsStored, Stored, base_seen, deleted, deletion, inserted, insertion, last_scn, live_count, rows_living, seen, update, updated}
 
 -- At each SCN from that of the change on, the table of the definitions is the one after the change, and at each before it the one that it was.
@@ -24,3 +24,12 @@ pub record Laws : Type 0 where
   pub settles : (s : Stored) (at : ℕ) → last_scn s.versions ≤ at → length (rows_living at s) ≡ live_count s
   -- the rows at the places of tables, by ascending rowid, are those of the base state that they are
   pub shows : (tables : List Stored) (at n : ℕ) → All IsStored tables → rows_shown (tables_at at tables) n ≡ meaning.rows_at (base_seen at tables) n
+  -- a change at an SCN isn't there in the base state of an SCN below
+  pub inserts_later : (tables : List Stored) (scn at n : ℕ) (values : List Value) → All IsStored tables → All (λ s. last_scn s.versions ≤ scn) tables → at < scn
+      → base_seen at (with_change n (inserted scn values) tables) ≡ base_seen at tables
+  pub deletes_later : (tables : List Stored) (scn at n place : ℕ) → All IsStored tables → All (λ s. last_scn s.versions ≤ scn) tables → LivesIn tables n place → at < scn
+      → base_seen at (with_change n (deleted scn place) tables) ≡ base_seen at tables
+  pub updates_later : (tables : List Stored) (scn at n place : ℕ) (values : List Value) → All IsStored tables → All (λ s. last_scn s.versions ≤ scn) tables → LivesIn tables n place → at < scn
+      → base_seen at (with_change n (updated scn place values) tables) ≡ base_seen at tables
+  -- from the last change on the table is the same
+  pub rests : (s : Stored) (from to : ℕ) → last_scn s.versions ≤ from → from ≤ to → seen from s ≡ seen to s

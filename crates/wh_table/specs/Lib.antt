@@ -1,3 +1,3 @@
 pub mod Stored
-pub mod Imaged
+pub mod Kept
 pub mod Laws

@@ -125,7 +125,8 @@ pub record IsStored (s : Stored) : Type 0 where
   pub named : All (IsNamed s.given) s.versions
   pub given : (at : ℕ) → last_scn s.versions ≤ at → given_at at s.versions ≡ s.given
 
--- that holds of a table of which so many rows live
-pub record IsHeld (live : ℕ) (s : Stored) : Type 0 where
+-- that holds of a table of which so many rows live, last changed at an SCN
+pub record IsHeld (live changed : ℕ) (s : Stored) : Type 0 where
   pub stored : IsStored s
   pub counted : live ≡ live_count s
+  pub latest : changed ≡ last_scn s.versions

@@ -1,13 +1,14 @@
-//! Tables of row versions, and images of them that are read at an SCN.
+//! Tables of row versions, read and changed at an SCN.
 #![tactic(auto)]
 
-mod image;
+mod def_copy;
 mod meaning;
 mod table;
+mod tables;
 
-pub use image::Image;
-pub use meaning::{image_law, laws};
+pub use meaning::{laws, tables_law};
 pub use table::Table;
+pub use tables::Tables;
 
 #[cfg(test)]
 mod tests;

@@ -2,12 +2,12 @@
 ghost use Rattle.std.specs.Prelude.{◌≡◌, ℕ};
 ghost use Rattle.def_meaning.specs.Joined.{rows_at};
 ghost use Rattle.wh_base.specs.Tables.{rows_shown};
-ghost use Rattle.wh_table.specs.Imaged.{tables_at};
+ghost use Rattle.wh_table.specs.Kept.{tables_at};
 ghost use Rattle.wh_table.specs.Laws.{Laws};
 ghost use Rattle.wh_table.specs.Stored.{base_seen};
 
-use crate::image::Image;
 use crate::table::Table;
+use crate::tables::Tables;
 
 /// The laws of a table: what its calls mean for the table of the definitions that it is at an SCN, in the words of
 /// `specs/Laws.antt`.
@@ -19,11 +19,11 @@ pub fn laws<L>(_table: &Table<L>)
     ensures { Laws }
 {}
 
-/// The law of an image: the rows that it shows of each table are those of the base state that its tables are at its SCN.
+/// The law of tables: the rows that they show of each table are those of the base state that they are at their SCN.
 ///
 /// It does nothing.
-pub fn image_law<L>(image: &Image<L>)
-    ensures { (n : ℕ) → rows_shown (tables_at image.now.scn image.now.tables.items) n ≡ rows_at (base_seen image.now.scn image.now.tables.items) n }
+pub fn tables_law<L>(tables: &Tables<L>)
+    ensures { (n : ℕ) → rows_shown (tables_at tables.now.scn tables.now.tables.items) n ≡ rows_at (base_seen tables.now.scn tables.now.tables.items) n }
 {
-    let _ = image.scn();
+    let _ = tables.scn();
 }

@@ -22,6 +22,7 @@ pub struct Table<L> {
     segment: Segment<L>,
     given: u64,
     live: u64,
+    changed: u64,
 }
 
 impl<L> Model for Table<L> {
@@ -32,7 +33,7 @@ impl<L> Model for Table<L> {
 
     ghost view = { λ t. record { def = t.def; versions = t.segment; given = t.given } };
 
-    ghost invariant = { λ t. IsHeld t.live (record { def = t.def; versions = t.segment; given = t.given }) };
+    ghost invariant = { λ t. IsHeld t.live t.changed (record { def = t.def; versions = t.segment; given = t.given }) };
 }
 
 impl<L> Table<L> {
@@ -45,6 +46,7 @@ impl<L> Table<L> {
             segment: Segment::new(alloc),
             given: 0,
             live: 0,
+            changed: 0,
         })
     }
 
@@ -68,6 +70,13 @@ impl<L> Table<L> {
         ensures { result ≡ self.now.given }
     {
         self.given
+    }
+
+    /// The SCN of the last change: the greatest at which a version was born or died, and 0 where there are none.
+    pub fn changed(&self) -> u64
+        ensures { result ≡ last_scn self.now.versions }
+    {
+        self.changed
     }
 
     /// How many places there are.
@@ -95,6 +104,7 @@ impl<L> Table<L> {
         let place = self.segment.append(self.given + 1, 0, values, scn)?;
         self.given += 1;
         self.live += 1;
+        self.changed = scn;
         Ok(place)
     }
 
@@ -109,6 +119,7 @@ impl<L> Table<L> {
     {
         self.segment.end(place, scn)?;
         self.live -= 1;
+        self.changed = scn;
         Ok(())
     }
 
@@ -125,11 +136,8 @@ impl<L> Table<L> {
         ensures ok { OnOk result (self.new ≡ updated scn place values self.old) }
         ensures err { OnErr result (self.new ≡ self.old) }
     {
-        let mut changed = self.segment.copy()?;
-        let rowid = changed.rowid(place);
-        changed.end(place, scn)?;
-        let new_place = changed.append(rowid, 0, values, scn)?;
-        self.segment = changed;
+        let new_place = self.segment.replace(place, values, scn)?;
+        self.changed = scn;
         Ok(new_place)
     }
 
@@ -168,6 +176,7 @@ impl<L> Table<L> {
             segment: self.segment.copy()?,
             given: self.given,
             live: self.live,
+            changed: self.changed,
         })
     }
 }

@@ -1,7 +1,7 @@
 ghost use Rattle.std.specs.Prelude.{IfOk};
 ghost use Rattle.wh_table.specs.Stored.{IsSmallRow};
 
-use crate::{Image, Table};
+use crate::{Table, Tables};
 use std::alloc::{AllocError, Global};
 use std::test::Fail;
 use wh_base::reads::Reads;
@@ -47,27 +47,38 @@ fn rows_are_there_at_their_scns(rt: HostRuntime) -> Result<(), Fail> {
         (5, [false, true]),
         (6, [false, false]),
     ] {
-        assert_eq!(rt; [table.visible(0, scn), table.visible(1, scn)], there, "at {scn}");
+        assert_eq!(rt;
+            [table.visible(0, scn), table.visible(1, scn)],
+            there,
+            "at {scn}"
+        );
     }
     assert!(rt; copy.visible(0, 6), "the copy is as it was");
     assert_eq!(rt; (table.live(), table.given(), table.places()), (0, 1, 2));
     Ok(())
 }
 
-/// An image shows what was changed once its SCN was raised.
+/// A change is seen at once, at the SCN of the tables, and a copy with a higher one leaves them as they are.
 #[test]
-fn changes_are_seen_at_the_next_scn(rt: HostRuntime) -> Result<(), Fail> {
+fn changes_are_seen_at_once(rt: HostRuntime) -> Result<(), Fail> {
     let alloc = rt.alloc();
     let mut reads = Reads::new(());
-    let mut image: Image<()> = Image::new(alloc);
-    image.push_table(Table::new(alloc, definition(alloc))?)?;
-    assert_eq!(rt; image.insert(0, row(alloc)?)?, 0);
-    assert!(rt; !image.lives(0, 0), "not yet");
-    let copy = image.copy(alloc)?;
-    image.raise();
-    assert!(rt; image.lives(0, 0));
-    assert!(rt; !copy.lives(0, 0), "the copy is as it was");
-    assert_eq!(rt; image.row(0, 0, &mut reads).as_slice(), [Value::Num(7)].as_slice());
+    let mut tables: Tables<()> = Tables::new(alloc)?;
+    tables.push_table(alloc, definition(alloc))?;
+    tables.raise();
+    assert_eq!(rt; tables.insert(0, row(alloc)?)?, 0);
+    assert!(rt; tables.lives(0, 0));
+    assert_eq!(rt; (tables.changed(0), tables.defs().len()), (1, 1));
+    let mut copy = tables.copy(alloc)?;
+    copy.raise();
+    copy.delete(0, 0)?;
+    assert!(rt; tables.lives(0, 0), "the tables are as they were");
+    assert!(rt; !copy.lives(0, 0));
+    assert_eq!(rt; (tables.changed(0), copy.changed(0)), (1, 2));
+    assert_eq!(rt;
+        tables.row(0, 0, &mut reads).as_slice(),
+        [Value::Num(7)].as_slice()
+    );
     assert_eq!(rt; reads.count(), 1);
     Ok(())
 }
