@@ -4,7 +4,7 @@ use Rattle.std.proofs.lemmas.Bool.Decides.{Decides-ltb}
 use Rattle.std.proofs.lemmas.List.{set-append_left, length-set, length_push}
 use Rattle.std.proofs.lemmas.Option.{slice_get-get_or}
 use Rattle.wh_base.specs.Lists.{joined_lists}
-use Rattle.wh_segment.specs.Chunks.{AreChunks, AreChunksOf, last_has_room}
+use Rattle.wh_segment.specs.Chunks.{AreChunks, last_has_room}
 use Rattle.wh_segment.proofs.Joined.{chunk_is, chunk_there, full_set, get_left, get_right, joined_push, new_chunks, new_list, offset_is, offset_there, put_at_place}
 
 -- ---- where the last chunk is full

@@ -1,21 +1,21 @@
 -- What is true of each table stays true with each call.
-use Rattle.std.proofs.Common.{◌≡◌, ◌∙◌, sym, ap, refl, subst, arith, ℕ, zero, suc, ◌+◌, ◌<◌, ◌≤◌, max, Bool, true, false, cond, not, ◌&&◌, ◌==◌, List, [], ◌∷◌, ◌++◌, length, Option, None, Some, IsTrue, IfSome, IsSomeAnd, slice_get, slice_set, nat_le, ◌-◌}
+use Rattle.std.proofs.Common.{◌≡◌, ◌∙◌, sym, ap, refl, subst, arith, ℕ, suc, ◌+◌, ◌<◌, ◌≤◌, max, Bool, true, false, cond, ◌&&◌, List, [], ◌∷◌, ◌++◌, length, Option, None, Some, IsTrue, IsSomeAnd, slice_get, slice_set, nat_le, ◌-◌}
 use Rattle.std.proofs.lemmas.Bool.{le-leb, leb-true}
 use Rattle.std.proofs.lemmas.List.{length_push}
 use Rattle.std.specs.List.{All, filter, list_all}
 use Rattle.wh_base.specs.Lists.{option_case}
-use Rattle.wh_base.specs.Tables.{AreSmall, HaveRowids, live_rows, most_live}
+use Rattle.wh_base.specs.Tables.{AreSmall, HaveRowids, most_live}
 use Rattle.wh_base.specs.Values.{is_small}
 use Rattle.wh_base.specs.declared.tables.RowAt.{RowAt}
 use Rattle.wh_base.specs.declared.tables.TableDef.{TableDef}
 use Rattle.wh_base.specs.declared.values.Value.{Value}
-use Rattle.wh_segment.specs.Versions.{born_at, ended, ended_at, is_live, replaced_at, rows_at}
+use Rattle.wh_segment.specs.Versions.{born_at, ended, ended_at, is_live, replaced_at}
 use Rattle.wh_segment.specs.declared.version.Version.{Version}
 use Rattle.wh_table.specs.Stored.{IsHeld, IsNamed, IsSmallRow, IsStored, Stored, begun, deleted, given_at, inserted, last_scn, live_count, rowid_at, rows_living, updated}
 use Rattle.wh_table.proofs.Counting.{all_from, all_named_ended, count_append, count_ended, each_from, each_get, ended_is, given_append, given_ended, last_append, last_ended}
 use Rattle.wh_table.proofs.Living.{differ_filter, differ_from, differ_push, filter_apart, have_from, settled_count}
-use Rattle.wh_table.proofs.Ordered.{Differ, Each, each_append, each_weaker, keeps}
-use Rattle.wh_table.proofs.Seen.{IsRowOf, name_at, new_row, rowid_is, rows_deleted, rows_have, rows_inserted, rows_less, rows_named, rows_updated}
+use Rattle.wh_table.proofs.Ordered.{Each, each_append, each_weaker, keeps}
+use Rattle.wh_table.proofs.Seen.{IsRowOf, name_at, new_row, rowid_is, rows_deleted, rows_inserted, rows_less, rows_named, rows_updated}
 
 -- ---- lists of rows
 

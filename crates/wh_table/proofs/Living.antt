@@ -1,6 +1,6 @@
 -- The rows at the places of a table: what each change of the places does to them, and what each version gives.
-use Rattle.std.proofs.Common.{◌≡◌, ◌∙◌, sym, ap, refl, subst, arith, ℕ, zero, suc, ◌+◌, ◌<◌, ◌≤◌, max, Bool, true, false, cond, not, ◌&&◌, ◌||◌, ◌==◌, List, [], ◌∷◌, ◌++◌, map, length, Option, None, Some, is_none, is_some, slice_get, slice_set, nat_le, nat_lt, leb, true≢false}
-use Rattle.std.proofs.lemmas.Bool.{le-leb, lt-leb, lt-ltb, le-ltb, eqb-true, eq-eqb}
+use Rattle.std.proofs.Common.{◌≡◌, ◌∙◌, sym, ap, refl, subst, arith, ℕ, zero, suc, ◌+◌, ◌<◌, ◌≤◌, max, Bool, true, false, cond, not, ◌&&◌, ◌||◌, ◌==◌, List, [], ◌∷◌, ◌++◌, map, length, Option, None, Some, is_none, is_some, slice_get, slice_set, nat_le, nat_lt, true≢false}
+use Rattle.std.proofs.lemmas.Bool.{le-leb, le-ltb, eqb-true, eq-eqb}
 use Rattle.std.specs.List.{filter}
 use Rattle.wh_base.specs.Lists.{option_case, where_true}
 use Rattle.wh_base.specs.Tables.{HaveRowids, Places, live_rows}

@@ -3,7 +3,7 @@ use Rattle.std.proofs.Common.{◌≡◌, ◌∙◌, sym, ap, refl, subst, ℕ, z
 use Rattle.std.proofs.lemmas.List.{length-map, nil_from_length}
 use Rattle.std.specs.List.{All}
 use Rattle.wh_base.specs.Lists.{option_case, where_true}
-use Rattle.wh_base.specs.Tables.{Places, place_of, places_of}
+use Rattle.wh_base.specs.Tables.{place_of, places_of}
 use Rattle.wh_base.specs.declared.tables.Part.{Part}
 use Rattle.wh_base.specs.declared.tables.RowAt.{RowAt}
 use Rattle.wh_base.specs.declared.values.Value.{Value}

@@ -1,5 +1,5 @@
 -- What tables are at their SCN, and what is true of them.
-use Rattle.std.proofs.Common.{not-suc-le-zero, refl, zero-le, zero-lt-suc}
+use Rattle.std.proofs.Common.{not-suc-le-zero, refl, zero-le}
 use Rattle.std.proofs.lemmas.List.Elements.{All-head, All-tail}
 use Rattle.std.specs.List.{All}
 use Rattle.std.specs.Prelude.{◌≡◌, ◌<◌, ◌≤◌, ◌^◌, IfSome, IsSomeAnd, IsTrue, List, None, Option, [], length, map, slice_get, suc, zero, ℕ, ◌∷◌}

@@ -1,6 +1,6 @@
 -- What a table stores, what each call makes of it, and which table of the definitions it is at an SCN.
 use Rattle.std.specs.List.{All, list_all}
-use Rattle.std.specs.Prelude.{◌≡◌, ◌<◌, ◌≤◌, Bool, IsTrue, List, None, Option, Some, [], cond, filter, length, map, max, nat_le, slice_get, unwrap_or, ℕ, ◌++◌, ◌+◌, ◌∷◌}
+use Rattle.std.specs.Prelude.{◌≡◌, ◌≤◌, IsTrue, List, None, Option, Some, [], cond, filter, length, map, max, nat_le, slice_get, unwrap_or, ℕ, ◌++◌, ◌+◌, ◌∷◌}
 use Rattle.wh_base.specs.Lists.{option_case, sorted_by}
 use Rattle.wh_base.specs.Tables.{AreSmall, Base, HaveRowids, Places, Row, Table, live_rows, most_live, rowid_cmp}
 use Rattle.wh_base.specs.Values.{is_small}

@@ -105,8 +105,8 @@ impl<L> Tables<L> {
         ensures ok { OnOk result (self.new.tables.items ≡ self.old.tables.items ++ begun def ∷ []) }
         ensures err { OnErr result (self.new.tables.items ≡ self.old.tables.items) }
     {
-        let defs = defs_with(alloc, self.defs.get(), &def)?;
-        let defs = Shared::new(alloc, defs)?;
+        let listed = defs_with(alloc, self.defs.get(), &def)?;
+        let defs = Shared::new(alloc, listed)?;
         let table = Table::new(alloc, def)?;
         push_to(&mut self.tables, table)?;
         self.defs = defs;

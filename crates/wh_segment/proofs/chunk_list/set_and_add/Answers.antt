@@ -1,4 +1,4 @@
-use Rattle.std.proofs.Common.{arith, length, ◌≡◌}
+use Rattle.std.proofs.Common.{arith}
 use Rattle.wh_segment.proofs.Joined.{chunk_there}
 use Rattle.wh_segment.proofs.Replacing.{added_full, added_is, added_offset}
 use Rattle.wh_segment.proofs.chunk_list.set_and_add.Goals as goal
