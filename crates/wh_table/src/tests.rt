@@ -63,7 +63,11 @@ fn rows_are_there_at_their_scns(rt: HostRuntime) -> Result<(), Fail> {
         (5, [false, true]),
         (6, [false, false]),
     ] {
-        assert_eq!(rt; [table.visible(0, scn), table.visible(1, scn)], there, "at {scn}");
+        assert_eq!(rt;
+            [table.visible(0, scn), table.visible(1, scn)],
+            there,
+            "at {scn}"
+        );
     }
     assert!(rt; copy.visible(0, 6), "the copy is as it was");
     assert_eq!(rt; (table.live(), table.given(), table.places()), (0, 1, 2));
@@ -117,9 +121,19 @@ fn changes_are_seen_at_once(rt: HostRuntime) -> Result<(), Fail> {
         } else {
             copy.update(0, 0, row(alloc)?)?;
         }
-        assert_eq!(rt; [number_at(&copy, 0), number_at(&copy, 1)], numbers, "deleted: {deletes}");
-        assert_eq!(rt; [number_at(&tables, 0), number_at(&tables, 1)], [Some(7), None]);
-        assert_eq!(rt; [last_change(&tables), last_change(&copy)], [Some(1), Some(2)]);
+        assert_eq!(rt;
+            [number_at(&copy, 0), number_at(&copy, 1)],
+            numbers,
+            "deleted: {deletes}"
+        );
+        assert_eq!(rt;
+            [number_at(&tables, 0), number_at(&tables, 1)],
+            [Some(7), None]
+        );
+        assert_eq!(rt;
+            [last_change(&tables), last_change(&copy)],
+            [Some(1), Some(2)]
+        );
     }
     Ok(())
 }
@@ -138,7 +152,10 @@ fn definitions_are_listed(rt: HostRuntime) -> Result<(), Fail> {
         match defs.get(at) {
             Some(def) => {
                 assert_eq!(rt; def.name.as_slice(), b"T".as_slice());
-                assert_eq!(rt; (def.columns.len(), def.keys.len(), def.foreign.len()), (1, 1, 1));
+                assert_eq!(rt;
+                    (def.columns.len(), def.keys.len(), def.foreign.len()),
+                    (1, 1, 1)
+                );
             }
             None => assert!(rt; false, "{at}"),
         }
