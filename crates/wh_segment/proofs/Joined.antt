@@ -11,12 +11,12 @@ append_none : {T : Type 0} (xs : List T) → xs ++ [] ≡ xs
 append_none [] = refl
 append_none (x ∷ xs) = ap (λ ys. x ∷ ys) (append_none xs)
 
-get_left : {T : Type 0} (xs ys : List T) (i : ℕ) → i < length xs → slice_get (xs ++ ys) i ≡ slice_get xs i
+pub get_left : {T : Type 0} (xs ys : List T) (i : ℕ) → i < length xs → slice_get (xs ++ ys) i ≡ slice_get xs i
 get_left [] ys i h = absurd (omega arith)
 get_left (x ∷ xs) ys zero h = refl
 get_left (x ∷ xs) ys (suc i) h = get_left xs ys i (omega arith)
 
-get_right : {T : Type 0} (xs ys : List T) (i j : ℕ) → j ≡ length xs + i → slice_get (xs ++ ys) j ≡ slice_get ys i
+pub get_right : {T : Type 0} (xs ys : List T) (i j : ℕ) → j ≡ length xs + i → slice_get (xs ++ ys) j ≡ slice_get ys i
 get_right [] ys i j e = let same : j ≡ i = omega arith in ap (slice_get ys) same
 get_right (x ∷ xs) ys i zero e = absurd (omega arith)
 get_right (x ∷ xs) ys i (suc j) e = get_right xs ys i j (omega arith)

@@ -1,3 +1,4 @@
 pub mod Joined
+pub mod Replacing
 pub mod Lawful
 pub mod Removing

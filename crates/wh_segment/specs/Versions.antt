@@ -1,5 +1,5 @@
 -- The versions of rows by their places, and what each call makes of them.
-use Rattle.std.specs.Prelude.{Bool, List, None, Option, Some, false, is_none, is_some, map, nat_le, nat_lt, slice_get, slice_set, true, ℕ, ◌&&◌}
+use Rattle.std.specs.Prelude.{Bool, List, None, Option, Some, [], false, is_none, is_some, map, nat_le, nat_lt, slice_get, slice_set, true, ℕ, ◌&&◌, ◌++◌, ◌∷◌}
 use Rattle.wh_base.specs.Lists.{change_where, option_case, where_true}
 use Rattle.wh_base.specs.Tables.{Places}
 use Rattle.wh_base.specs.declared.tables.RowAt.{RowAt}
@@ -35,6 +35,10 @@ removed v = record v { values = None }
 -- the versions with the one at a place ended
 abbrev pub ended_at : ℕ → ℕ → List Version → List Version
 ended_at place scn vs = option_case (slice_get vs place) vs (λ v. slice_set vs place (ended scn v))
+
+-- the versions with the one at a place ended, and at the end its successor with these values
+abbrev pub replaced_at : ℕ → ℕ → List Value → List Version → List Version
+replaced_at place scn values vs = option_case (slice_get vs place) vs (λ v. slice_set vs place (ended scn v) ++ born_at scn v.rowid v.part values ∷ [])
 
 -- the versions without the values of those that died at an SCN or before
 abbrev pub purged : ℕ → List Version → List Version

@@ -91,6 +91,67 @@ impl<T: Copied + Drop> Chunk<T> {
         }
         Ok(())
     }
+
+    /// Puts an item at a place and one more at the end. After an error, which says that memory ran out, the chunk is as it
+    /// was.
+    pub fn set_and_push(
+        &mut self,
+        alloc: Global,
+        at: usize,
+        item: T,
+        more: T,
+    ) -> Result<(), AllocError>
+        requires { at < length self.old }
+        ensures ok { OnOk result (self.new ≡ slice_set self.old at item ++ more ∷ []) }
+        ensures err { OnErr result (self.new ≡ self.old) }
+    {
+        match Arc::get_mut(&mut self.items) {
+            Some(items) => {
+                items.reserve(1)?;
+                items[at] = item;
+                items.push_reserved(more);
+            }
+            None => {
+                let mut items = copied_items(alloc, self.items.as_slice())?;
+                items[at] = item;
+                items.push(more)?;
+                self.items = Arc::new(alloc, items)?;
+            }
+        }
+        Ok(())
+    }
+
+    /// Puts an item at a place, and one more at the end of another chunk. After an error, which says that memory ran out,
+    /// both chunks are as they were.
+    pub fn set_beside(
+        &mut self,
+        alloc: Global,
+        at: usize,
+        item: T,
+        last: &mut Chunk<T>,
+        more: T,
+    ) -> Result<(), AllocError>
+        requires { at < length self.old }
+        ensures ok { OnOk result (self.new ≡ slice_set self.old at item) }
+        ensures more { OnOk result (last.new ≡ last.old ++ more ∷ []) }
+        ensures err { OnErr result (self.new ≡ self.old) }
+        ensures same { OnErr result (last.new ≡ last.old) }
+    {
+        match Arc::get_mut(&mut self.items) {
+            Some(items) => {
+                last.push(alloc, more)?;
+                items[at] = item;
+            }
+            None => {
+                let mut items = copied_items(alloc, self.items.as_slice())?;
+                items[at] = item;
+                let changed = Arc::new(alloc, items)?;
+                last.push(alloc, more)?;
+                self.items = changed;
+            }
+        }
+        Ok(())
+    }
 }
 
 /// The same items, with memory for one more. An error says that memory ran out.

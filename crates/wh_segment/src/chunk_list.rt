@@ -1,4 +1,4 @@
-ghost use Rattle.std.specs.Prelude.{◌≡◌, ◌<◌, ◌^◌, [], ◌∷◌, ◌++◌, IfOk, OnErr, OnOk, length, slice_get, slice_set};
+ghost use Rattle.std.specs.Prelude.{◌≡◌, ◌<◌, ◌^◌, [], ◌∷◌, ◌++◌, IfOk, OnErr, OnOk, false, length, slice_get, slice_set, true};
 ghost use Rattle.std.specs.Option.{option_copied};
 ghost use Rattle.wh_base.specs.Lists.{joined_lists};
 ghost use Rattle.wh_segment.specs.Chunks.{AreChunks, last_has_room};
@@ -89,6 +89,27 @@ impl<T: Copied + Drop> ChunkList<T> {
         Ok(())
     }
 
+    /// Puts an item at a place and one more at the end, as one step, which copies at most the two chunks that it changes.
+    /// After an error, which says that memory ran out or that there are 2^32 - 1 items, the list is as it was.
+    pub fn set_and_push(
+        &mut self,
+        alloc: Global,
+        place: usize,
+        item: T,
+        more: T,
+    ) -> Result<(), AllocError>
+        requires { place < length self.old }
+        ensures ok { OnOk result (self.new ≡ slice_set self.old place item ++ more ∷ []) }
+        ensures err { OnErr result (self.new ≡ self.old) }
+    {
+        if self.count >= MOST {
+            return Err(AllocError);
+        }
+        set_and_push_item(&mut self.chunks, alloc, place, item, more)?;
+        self.count += 1;
+        Ok(())
+    }
+
     /// The same list, which shares its chunks. An error says that memory ran out.
     pub fn copy(&self, alloc: Global) -> Result<ChunkList<T>, AllocError>
         ensures { IfOk result (λ l. l ≡ self.now) }
@@ -122,6 +143,101 @@ fn push_item<T: Copied + Drop>(
         return Ok(());
     }
     chunks.push(Chunk::one(alloc, item)?)?;
+    Ok(())
+}
+
+/// An item at a place of the list in these chunks, and one more at its end. After an error, which says that memory ran out,
+/// they are as they were.
+fn set_and_push_item<T: Copied + Drop>(
+    chunks: &mut Vec<Chunk<T>>,
+    alloc: Global,
+    place: usize,
+    item: T,
+    more: T,
+) -> Result<(), AllocError>
+    requires full { AreChunks chunks.old.items }
+    requires there { place < length (joined_lists chunks.old.items) }
+    ensures ok { OnOk result (joined_lists chunks.new.items ≡ slice_set (joined_lists chunks.old.items) place item ++ more ∷ []) }
+    ensures full { OnOk result (AreChunks chunks.new.items) }
+    ensures err { OnErr result (chunks.new.items ≡ chunks.old.items) }
+{
+    if last_has_room(chunks.as_slice()) {
+        set_and_fill(chunks.as_mut_slice(), alloc, place, item, more)?;
+        return Ok(());
+    }
+    set_and_add(chunks, alloc, place, item, more)?;
+    Ok(())
+}
+
+/// `set_and_push_item` where the last chunk is full.
+fn set_and_add<T: Copied + Drop>(
+    chunks: &mut Vec<Chunk<T>>,
+    alloc: Global,
+    place: usize,
+    item: T,
+    more: T,
+) -> Result<(), AllocError>
+    requires full { AreChunks chunks.old.items }
+    requires there { place < length (joined_lists chunks.old.items) }
+    requires none { last_has_room chunks.old.items ≡ false }
+    ensures ok { OnOk result (joined_lists chunks.new.items ≡ slice_set (joined_lists chunks.old.items) place item ++ more ∷ []) }
+    ensures full { OnOk result (AreChunks chunks.new.items) }
+    ensures err { OnErr result (chunks.new.items ≡ chunks.old.items) }
+{
+    let added = Chunk::one(alloc, more)?;
+    chunks.reserve(1)?;
+    chunks[place / CHUNK_SIZE].set(alloc, place % CHUNK_SIZE, item)?;
+    chunks.push_reserved(added);
+    Ok(())
+}
+
+/// `set_and_push_item` where the last chunk isn't full.
+fn set_and_fill<T: Copied + Drop>(
+    chunks: &mut [Chunk<T>],
+    alloc: Global,
+    place: usize,
+    item: T,
+    more: T,
+) -> Result<(), AllocError>
+    requires full { AreChunks chunks.old }
+    requires there { place < length (joined_lists chunks.old) }
+    requires room { last_has_room chunks.old ≡ true }
+    ensures ok { OnOk result (joined_lists chunks.new ≡ slice_set (joined_lists chunks.old) place item ++ more ∷ []) }
+    ensures full { OnOk result (AreChunks chunks.new) }
+    ensures err { OnErr result (chunks.new ≡ chunks.old) }
+{
+    match chunks.split_last_mut() {
+        Some((last, others)) => {
+            set_and_fill_last(others, last, alloc, place, item, more)?;
+            Ok(())
+        }
+        None => unreachable!(),
+    }
+}
+
+/// An item at a place of the list in these chunks and the last one, which isn't full, and one more in the last one. After an
+/// error, which says that memory ran out, they are as they were.
+fn set_and_fill_last<T: Copied + Drop>(
+    others: &mut [Chunk<T>],
+    last: &mut Chunk<T>,
+    alloc: Global,
+    place: usize,
+    item: T,
+    more: T,
+) -> Result<(), AllocError>
+    requires full { AreChunks (others.old ++ last.old ∷ []) }
+    requires there { place < length (joined_lists (others.old ++ last.old ∷ [])) }
+    requires room { last_has_room (others.old ++ last.old ∷ []) ≡ true }
+    ensures ok { OnOk result (joined_lists (others.new ++ last.new ∷ []) ≡ slice_set (joined_lists (others.old ++ last.old ∷ [])) place item ++ more ∷ []) }
+    ensures full { OnOk result (AreChunks (others.new ++ last.new ∷ [])) }
+    ensures err { OnErr result (others.new ≡ others.old) }
+    ensures same { OnErr result (last.new ≡ last.old) }
+{
+    if place / CHUNK_SIZE < others.len() {
+        others[place / CHUNK_SIZE].set_beside(alloc, place % CHUNK_SIZE, item, last, more)?;
+        return Ok(());
+    }
+    last.set_and_push(alloc, place % CHUNK_SIZE, item, more)?;
     Ok(())
 }
 

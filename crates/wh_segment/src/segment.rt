@@ -1,5 +1,5 @@
 ghost use Rattle.std.specs.Prelude.{◌≡◌, ◌+◌, ◌-◌, ◌<◌, ◌^◌, [], ◌∷◌, ◌++◌, IfOk, IfSome, IsSome, IsSomeAnd, IsTrue, OnErr, OnOk, Some, filter, length, slice_get};
-ghost use Rattle.wh_segment.specs.Versions.{born_at, ended_at, is_live, is_past, purged, removed_at, visible_at};
+ghost use Rattle.wh_segment.specs.Versions.{born_at, ended_at, is_live, is_past, purged, removed_at, replaced_at, visible_at};
 
 use crate::chunk_list::ChunkList;
 use crate::version::Version;
@@ -94,6 +94,33 @@ impl<L> Segment<L> {
         ended.died = Some(scn);
         self.versions.set(self.alloc, place, ended)?;
         Ok(())
+    }
+
+    /// Ends the version at a place and appends its successor with these values, as one step: from this SCN on its row has
+    /// them. The successor has the same rowid and partition; its place is given. The version must be live. After an error,
+    /// which says that memory ran out or that there are 2^32 - 1 places, the segment is as it was.
+    pub fn replace(&mut self, place: u64, values: Seq<Value>, scn: u64) -> Result<u64, AllocError>
+        requires { IsSomeAnd (slice_get self.old place) (λ v. IsTrue (is_live v)) }
+        ensures place { IfOk result (λ place. place ≡ length self.old) }
+        ensures ok { OnOk result (self.new ≡ replaced_at place scn values self.old) }
+        ensures err { OnErr result (self.new ≡ self.old) }
+    {
+        let new_place = self.len();
+        let place = place as usize;
+        let Some(version) = self.versions.get(place) else {
+            unreachable!();
+        };
+        let next = Version {
+            rowid: version.rowid,
+            part: version.part,
+            born: scn,
+            died: None,
+            values: Some(Shared::new(self.alloc, values)?),
+        };
+        let mut ended = version.copied(self.alloc)?;
+        ended.died = Some(scn);
+        self.versions.set_and_push(self.alloc, place, ended, next)?;
+        Ok(new_place)
     }
 
     /// Whether the row of the version at a place is there at an SCN with these values: where the version was born at that

@@ -1,0 +1,5 @@
+use Rattle.wh_table.proofs.Seen.{laws_hold}
+use Rattle.wh_table.proofs.meaning.tables_law.Goals as goal
+
+pub returns : goal.returns
+returns g c = λ n. laws_hold.shows c.args.tables.now.tables.items c.args.tables.now.scn n c.args.tables.now.kept.stored

@@ -1,0 +1,8 @@
+use Rattle.wh_table.specs.Stored.{deleted}
+use Rattle.wh_table.proofs.Changing.{set_changed, table_is}
+use Rattle.wh_table.proofs.tables.delete_from.Goals as goal
+
+pub returns-clause-ok : goal.returns-clause-ok
+returns-clause-ok g c =
+    let there = table_is c.args.tables.now.items c.args.number c.index_mut.result.now c.requires.table c.index_mut.ensures.value in
+    set_changed (deleted c.args.scn c.args.place) c.args.tables.now.items c.args.number c.index_mut.result.now c.delete.new.self there c.in_ok-delete.ensures.ok
