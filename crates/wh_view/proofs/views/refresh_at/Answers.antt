@@ -1,0 +1,8 @@
+use Rattle.wh_view.specs.Kept.{refreshed}
+use Rattle.wh_view.proofs.Changing.{set_changed, view_is}
+use Rattle.wh_view.proofs.views.refresh_at.Goals as goal
+
+pub returns : goal.returns
+returns c =
+    let there = view_is c.args.views.now.items c.args.place c.index_mut.result.now c.requires c.index_mut.ensures.value in
+    set_changed (refreshed c.args.scn c.args.entries) c.args.views.now.items c.args.place c.index_mut.result.now c.refresh.new.self there c.refresh.ensures
