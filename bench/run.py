@@ -55,7 +55,7 @@ def one_insert(rows: int) -> Iterator[str]:
     yield "SELECT G, SUM(A), COUNT(*) FROM SALES GROUP BY G"
 
 
-READ_ROWS = 30_000  # about 1 MiB of statements
+READ_ROWS = 29_000  # about 1 MiB of statements
 
 
 def refused_inserts(rows: int) -> Iterator[str]:
