@@ -11,10 +11,10 @@ use Rattle.def_history.specs.Catalog.{Catalog, Noted, Touched, base_at, base_now
 use Rattle.def_history.specs.History.{noted_changes, noted_touches, within}
 use Rattle.def_journal.specs.Committing.{after_block, commit_touches, do_dues, noted, part_touch, touched_parts, changes_in}
 use Rattle.def_journal.specs.Journal.{state_after, state_of}
-use Rattle.def_journal.specs.State.{Session, State, empty_state}
+use Rattle.def_journal.specs.State.{State, empty_state}
 use Rattle.wh_trace.proofs.Due.{KeepsDue, dues_keep}
 use Rattle.wh_trace.proofs.Listed.{Each, Pairs, all_from, and_false, each_append, each_flat, each_made, each_weaker, filter_behind, find_behind, le_false, le_true, pairs_append, pairs_from, pairs_level, pairs_push}
-use Rattle.wh_trace.proofs.Moves.{Adds, Alters, Commits, Creates, Declares, Drops, Forgets, Installs, Logs, Move, Purges, Stays, Switches, Withdraws, own}
+use Rattle.wh_trace.proofs.Moves.{Adds, Alters, Commits, Creates, Declares, Drops, Forgets, Installs, Logs, Move, Purges, Stays, Switches, Withdraws}
 use Rattle.wh_trace.proofs.Stepping.{moves}
 use Rattle.wh_trace.proofs.Traces.{state_more}
 use Rattle.wh_trace.specs.Laws.{BaseLaws, ChangeLaws}
@@ -155,17 +155,17 @@ commit_grows c p =
     (each_flat (λ (t : Touched). t.touch.scn ≡ suc c.scn) (λ (q : ℕ × Table). map (part_touch (suc c.scn) q.0 false) (touched_parts q.1 (changes_in p.changes q.0)))
     (λ q. each_made (λ t. t.touch.scn ≡ suc c.scn) (part_touch (suc c.scn) q.0 false) (λ part. refl) (touched_parts q.1 (changes_in p.changes q.0))) (enumerate_from 0 p.base))
 
-move_grows : (s : State) (x : Session) (d : Catalog) → Move s x d → Grows s.catalog d
+move_grows : (s : State) (x : Event) (d : Catalog) → Move s x d → Grows s.catalog d
 move_grows s x d (Stays is) = subst (Grows s.catalog) (sym is) (grows_flat s.catalog s.catalog (omega arith) (omega arith) refl refl refl)
-move_grows s x d (Commits p statements same is) = subst (Grows s.catalog) (sym is) (commit_grows s.catalog p)
-move_grows s x d (Creates t new is) =
+move_grows s x d (Commits p statements same block is) = subst (Grows s.catalog) (sym is) (commit_grows s.catalog p)
+move_grows s x d (Creates t new fits is) =
     subst (Grows s.catalog) (sym is) (grows_based s.catalog _ (base_now s.catalog ++ defined (defs_now s.catalog) t ∷ []) [] [] refl refl refl (sym (append-nil s.catalog.changes)) tt (sym (append-nil s.catalog.touches)) tt)
-move_grows s x d (Alters n a same is) =
+move_grows s x d (Alters n a same change cut is) =
     subst (Grows s.catalog) (sym is)
     (grows_based s.catalog _ (with_table (base_now s.catalog) n a.table) [] (part_touch (suc s.catalog.scn) n true (a.part, a.interval) ∷ []) refl refl refl (sym (append-nil s.catalog.changes)) tt refl (refl, tt))
 move_grows s x d (Logs logs is) = subst (Grows s.catalog) (sym is) (grows_flat s.catalog _ (omega arith) (omega arith) refl refl refl)
 move_grows s x d (Purges logs is) = subst (Grows s.catalog) (sym is) (grows_flat s.catalog _ (omega arith) (omega arith) refl refl refl)
-move_grows s x d (Forgets oldest more is) = subst (Grows s.catalog) (sym is) (grows_flat s.catalog _ (omega arith) (omega arith) refl refl refl)
+move_grows s x d (Forgets oldest more undo is) = subst (Grows s.catalog) (sym is) (grows_flat s.catalog _ (omega arith) (omega arith) refl refl refl)
 move_grows s x d (Adds v q new is) = subst (Grows s.catalog) (sym is) (grows_flat s.catalog _ (omega arith) (omega arith) refl refl refl)
 move_grows s x d (Switches n f keeps is) = subst (Grows s.catalog) (sym is) (grows_flat s.catalog _ (omega arith) (omega arith) refl refl refl)
 move_grows s x d (Installs n b begun is) = subst (Grows s.catalog) (sym is) (grows_flat s.catalog _ (omega arith) (omega arith) refl refl refl)
@@ -176,7 +176,7 @@ move_grows s x d (Withdraws name is) = subst (Grows s.catalog) (sym is) (grows_f
 events_grow : (s : State) (events : List Event) → Grows s.catalog (fold state_after s events).catalog
 events_grow s [] = grows_flat s.catalog s.catalog (omega arith) (omega arith) refl refl refl
 events_grow s (e ∷ events) =
-    grows_on s.catalog (state_after s e).catalog (fold state_after (state_after s e) events).catalog (move_grows s (own s e) (state_after s e).catalog (moves s e).catalog)
+    grows_on s.catalog (state_after s e).catalog (fold state_after (state_after s e) events).catalog (move_grows s e (state_after s e).catalog (moves s e).catalog)
     (events_grow (state_after s e) events)
 
 pub trace_grows : (trace more : List Event) → Grows (catalog_of trace) (catalog_of (trace ++ more))
@@ -220,11 +220,11 @@ past_falls d g =
     subst (Pairs IsNewer) (sym g.past)
     (pairs_push IsNewer g.newer (0, []) g.falls (each_weaker (λ p. Between 0 d.scn p.0) (λ p. IsNewer p (0, [])) (λ p b. b.0) g.newer g.recent))
 
-changes_bounded : (d : Catalog) → Grows empty_catalog d → Each (λ n. n.scn ≤ d.scn) d.changes
+pub changes_bounded : (d : Catalog) → Grows empty_catalog d → Each (λ n. n.scn ≤ d.scn) d.changes
 changes_bounded d g =
     subst (Each (λ n. n.scn ≤ d.scn)) (sym g.changes) (each_weaker (λ n. Between 0 d.scn n.scn) (λ n. n.scn ≤ d.scn) (λ n b. b.1) g.news g.news_recent)
 
-touches_bounded : (d : Catalog) → Grows empty_catalog d → Each (λ t. t.touch.scn ≤ d.scn) d.touches
+pub touches_bounded : (d : Catalog) → Grows empty_catalog d → Each (λ t. t.touch.scn ≤ d.scn) d.touches
 touches_bounded d g =
     subst (Each (λ t. t.touch.scn ≤ d.scn)) (sym g.touches) (each_weaker (λ t. Between 0 d.scn t.touch.scn) (λ t. t.touch.scn ≤ d.scn) (λ t b. b.1) g.touched g.touched_recent)
 

@@ -12,3 +12,17 @@ pub mod Tabling
 pub mod Preceding
 pub mod Pointing
 pub mod Installing
+pub mod Basing
+pub mod Keying
+pub mod Asking
+pub mod Rising
+pub mod Untouched
+pub mod Finishing
+pub mod Fitting
+pub mod Parenting
+pub mod Defining
+pub mod Rowing
+pub mod Counting
+pub mod Bounding
+pub mod Leaving
+pub mod Versions

@@ -44,6 +44,14 @@ pub each_weaker : {A : Type 0} (P Q : A → Type 0) → ((x : A) → P x → Q x
 each_weaker P Q f [] h = tt
 each_weaker P Q f (x ∷ xs) h = (f x h.0, each_weaker P Q f xs h.1)
 
+pub each_two : {A : Type 0} (P Q : A → Type 0) (xs : List A) → Each P xs → Each Q xs → Each (λ x. P x × Q x) xs
+each_two P Q [] h k = tt
+each_two P Q (x ∷ xs) h k = ((h.0, k.0), each_two P Q xs h.1 k.1)
+
+pub each_every : {A : Type 0} (P : A → Type 0) → ((x : A) → P x) → (xs : List A) → Each P xs
+each_every P k [] = tt
+each_every P k (x ∷ xs) = (k x, each_every P k xs)
+
 pub each_append : {A : Type 0} (P : A → Type 0) (xs ys : List A) → Each P xs → Each P ys → Each P (xs ++ ys)
 each_append P [] ys h k = k
 each_append P (x ∷ xs) ys h k = (h.0, each_append P xs ys h.1 k)

@@ -33,6 +33,10 @@ pub first_none : {A : Type 0} (b : Bool) (x : A) (rest : List (Option A)) → fi
 first_none true x rest e = absurd (cc)
 first_none false x rest e = refl
 
+pub none_where : {A : Type 0} (b : Bool) (x : A) → where_true b x ≡ None → b ≡ false
+none_where true x e = absurd (cc)
+none_where false x e = refl
+
 -- ---- of the state that a step leaves
 
 pub cond_step : (P : State → Type 0) (b : Bool) (one other : Step) → (b ≡ true → P one.state) → (b ≡ false → P other.state) → P (cond b one other).state

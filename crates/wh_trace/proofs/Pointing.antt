@@ -58,14 +58,14 @@ built_at false scn p e = absurd (none_not_some p e)
 abbrev IsEarlier : State → Session → Type 0
 IsEarlier s x = (b : Begun) → x.begun ≡ Some b → b.image.scn ≤ s.catalog.scn
 
-move_pointed : (s : State) (x : Session) (d : Catalog) → IsEarlier s x → Move s x d → Pointed s.catalog → Pointed d
+move_pointed : (s : State) (x : Event) (d : Catalog) → IsEarlier s (own s x) → Move s x d → Pointed s.catalog → Pointed d
 move_pointed s x d early (Stays is) h = subst Pointed (sym is) h
-move_pointed s x d early (Commits p ss same is) h = subst Pointed (sym is) (dues_keep Pointed due_pointed (after_block s.catalog p) p.changes (raised s.catalog.scn s.catalog.views h))
-move_pointed s x d early (Creates t new is) h = subst Pointed (sym is) (raised s.catalog.scn s.catalog.views h)
-move_pointed s x d early (Alters n a same is) h = subst Pointed (sym is) (raised s.catalog.scn s.catalog.views h)
+move_pointed s x d early (Commits p ss same block is) h = subst Pointed (sym is) (dues_keep Pointed due_pointed (after_block s.catalog p) p.changes (raised s.catalog.scn s.catalog.views h))
+move_pointed s x d early (Creates t new fits is) h = subst Pointed (sym is) (raised s.catalog.scn s.catalog.views h)
+move_pointed s x d early (Alters n a same change cut is) h = subst Pointed (sym is) (raised s.catalog.scn s.catalog.views h)
 move_pointed s x d early (Logs logs is) h = subst Pointed (sym is) (raised s.catalog.scn s.catalog.views h)
 move_pointed s x d early (Purges logs is) h = subst Pointed (sym is) h
-move_pointed s x d early (Forgets oldest more is) h = subst Pointed (sym is) h
+move_pointed s x d early (Forgets oldest more undo is) h = subst Pointed (sym is) h
 move_pointed s x d early (Adds v q new is) h =
     subst Pointed (sym is) (each_append (IsAtMost s.catalog.scn) s.catalog.views (new_view s.catalog v q ∷ []) h (λ p e. built_at (not v.deferred) s.catalog.scn p e, tt))
 move_pointed s x d early (Switches n f keeps is) h = subst Pointed (sym is) (pointed_changed s.catalog n f (λ v at p e. at p (sym (keeps.point v) ∙ e)) h)
@@ -88,7 +88,7 @@ trace_pointed = by_events (λ trace. Pointed (catalog_of trace)) tt step
     step : (front : List Event) (e : Event) → Pointed (catalog_of front) → Pointed (catalog_of (front ++ e ∷ []))
     step front e h =
         subst (λ (s : State). Pointed s.catalog) (sym (state_push front e))
-        (move_pointed (state_of front) (own (state_of front) e) (state_after (state_of front) e).catalog (image_low front e.entry.session) (moves (state_of front) e).catalog h)
+        (move_pointed (state_of front) e (state_after (state_of front) e).catalog (image_low front e.entry.session) (moves (state_of front) e).catalog h)
 
 pairs_unmap : {A B : Type 0} (R : B → B → Type 0) (f : A → B) (xs : List A) → Pairs R (map f xs) → Pairs (λ x y. R (f x) (f y)) xs
 pairs_unmap R f [] h = tt

@@ -1,7 +1,8 @@
 -- Every event leaves one of the cases of Moves.
-use Rattle.std.proofs.Common.{arith, ◌≡◌, refl, ℕ, Bool, true, not, cond, List, [], ◌∷◌, ◌++◌, length, Option, None, Some, nat_le, ◌==◌}
+use Rattle.std.proofs.Common.{arith, ap, ◌≡◌, ◌≤◌, refl, ℕ, ℤ, Bool, true, false, true≢false, not, cond, List, [], ◌∷◌, ◌++◌, length, Option, None, Some, nat_le, ◌==◌}
 use Rattle.std.specs.List.{filter}
-use Rattle.std.specs.Prelude.{Err, Ok, Result, int_lt, max, nat_abs, pos, ◌-◌}
+use Rattle.std.specs.Prelude.{Err, Ok, Result, int_lt, max, nat_abs, negsuc, pos, ◌-◌}
+use Rattle.std.proofs.lemmas.Bool.{ltb-false}
 use Rattle.wh_base.specs.Lists.{change_where, first_some, has_text, option_case, or_refuse, same_text, unless, where_true, ◌>>=◌}
 use Rattle.wh_base.specs.Tables.{Base, Table, def_at, table_at}
 use Rattle.wh_base.specs.declared.queries.StarQuery.{StarQuery}
@@ -47,26 +48,27 @@ use Rattle.def_journal.specs.Committing.{commit, commit_result}
 use Rattle.def_journal.specs.Explaining.{explain_view, show_log, show_view, shown, the_dimension, the_log, the_view, validated}
 use Rattle.def_journal.specs.Journal.{state_after}
 use Rattle.def_journal.specs.Refreshing.{Computed, asked_method, begin_refresh, begun_view, change_view, computed, ended, install_begun, install_computed, install_into, install_refresh, overtaken, refreshed_to}
-use Rattle.def_journal.specs.State.{Begun, Session, State, Step, done_or_refused, image_of, next_scn, only_reads, refused, replied, with_base, with_catalog}
+use Rattle.def_journal.specs.State.{Begun, State, Step, done_or_refused, image_of, next_scn, only_reads, refused, replied, with_base, with_catalog}
 use Rattle.def_resolve.specs.Resolve.{resolve}
 use Rattle.def_journal.specs.Statements.{Outcome, altered, build_reads, change_named_view, fast_form_refusal, new_log, new_log_refusal, new_view, purged_or_refused, switched, unread, unregistered, with_view}
 use Rattle.def_journal.specs.Steps.{dimension_change, log_change, other_step, purge_change, session_done, show_step, statement_step, step, table_change, view_change}
-use Rattle.wh_trace.proofs.Moves.{Adds, Alters, Begins, Closes, Commits, Creates, Declares, Drops, Ends, Forgets, Installs, Keeps, KeepsView, Logs, Move, Moved, Opens, Purges, Switches, Withdraws, leaves, leaves_both, own, puts, stays}
-use Rattle.wh_trace.proofs.Outcomes.{EachOk, bind_ok, cond_step, first_none, ok_holds, option_step, unless_bind, unless_ok, unless_then_ok}
+use Rattle.wh_trace.proofs.Moves.{Adds, Alters, Begins, Closes, Commits, Creates, Declares, Drops, Ends, Forgets, Installs, Keeps, KeepsView, Logs, Move, Moved, Opens, Purges, Switches, Withdraws, is_block, leaves, leaves_both, own, puts, stays}
+use Rattle.wh_trace.proofs.Outcomes.{EachOk, bind_ok, cond_step, first_none, none_where, ok_holds, option_step, unless_bind, unless_ok, unless_then_ok}
+use Rattle.wh_trace.specs.Reached.{is_below_zero}
 
 -- the catalog of an outcome
-abbrev Leads : State → Session → Outcome → Type 0
+abbrev Leads : State → Event → Outcome → Type 0
 Leads s x o = EachOk (λ p. Move s x p.0) o
 
-abbrev Left : State → Session → Catalog × ℕ → Type 0
+abbrev Left : State → Event → Catalog × ℕ → Type 0
 Left s x p = Move s x p.0
 
 -- ---- tables
 
-abbrev HasDef : Table → Altering → Type 0
+abbrev pub HasDef : Table → Altering → Type 0
 HasDef t a = a.table.def ≡ t.def
 
-part_keeps : (base : Base) (n : ℕ) (t : Table) (change : PartChange) → EachOk (HasDef t) (alter_part base n t change)
+pub part_keeps : (base : Base) (n : ℕ) (t : Table) (change : PartChange) → EachOk (HasDef t) (alter_part base n t change)
 part_keeps base n t (Add r) =
     bind_ok (HasDef t) (or_refuse t.def.part_key (PartitionBound t.def.name r.name)) (λ key. unless (add_refusal t r key) (added t r))
     (λ key e. unless_ok (HasDef t) (add_refusal t r key) (added t r) (λ none. refl))
@@ -78,28 +80,34 @@ part_keeps base n t (Truncate name) =
     bind_ok (HasDef t) (or_refuse (part_named t name) (NoSuchObject name)) (λ p. unless (referred_refusal base n) (truncated t p))
     (λ p e. unless_ok (HasDef t) (referred_refusal base n) (truncated t p) (λ none. refl))
 
-abbrev KeepsDef : Base → ℕ × Altering → Type 0
-KeepsDef base a = HasDef (table_at base a.0) a.1
+-- what becomes of a table, and the form that made it of it
+record Cuts (base : Base) (t : PartChange) (a : ℕ × Altering) : Type 0 where
+  def : HasDef (table_at base a.0) a.1
+  cut : alter_part base a.0 (table_at base a.0) t ≡ Ok a.1
 
-table_leads : (s : State) (x : Session) (t : TableStatement) → Leads s x (table_change s.catalog t)
+table_leads : (s : State) (x : Event) (t : TableStatement) → Leads s x (table_change s.catalog t)
 table_leads s x (CreateTable t) =
     let c : Catalog = s.catalog in
     unless_bind (Left s x) (define_refusal (names_taken c) (defs_now c) t) (base_now c ++ defined (defs_now c) t ∷ []) (λ base. unread (with_base c base))
-    (λ none. Creates t (first_none (has_text (names_taken c) t.name) (NameTaken t.name) _ none) refl)
+    (λ none. Creates t (first_none (has_text (names_taken c) t.name) (NameTaken t.name) _ none) none refl)
 table_leads s x (AlterTable t) =
     let c : Catalog = s.catalog in
-    let keeps : EachOk (KeepsDef (base_now c)) (alter_table (base_now c) t) =
-    bind_ok (KeepsDef (base_now c)) (the_table (base_now c) t.table)
+    let cuts : EachOk (Cuts (base_now c) t.change) (alter_table (base_now c) t) =
+    bind_ok (Cuts (base_now c) t.change) (the_table (base_now c) t.table)
     (λ n. alter_part (base_now c) n (table_at (base_now c) n) t.change >>= (λ a. Ok (n, a)))
-    (λ n e. bind_ok (KeepsDef (base_now c)) (alter_part (base_now c) n (table_at (base_now c) n) t.change) (λ a. Ok (n, a))
-    (λ a same. ok_holds (HasDef (table_at (base_now c) n)) (alter_part (base_now c) n (table_at (base_now c) n) t.change) a
-    (part_keeps (base_now c) n (table_at (base_now c) n) t.change) same)) in
+    (λ n e. bind_ok (Cuts (base_now c) t.change) (alter_part (base_now c) n (table_at (base_now c) n) t.change) (λ a. Ok (n, a))
+    (λ a same. record {
+      def = ok_holds (HasDef (table_at (base_now c) n)) (alter_part (base_now c) n (table_at (base_now c) n) t.change) a
+          (part_keeps (base_now c) n (table_at (base_now c) n) t.change) same;
+      cut = same;
+    })) in
     bind_ok (Left s x) (alter_table (base_now c) t) (λ a. unread (altered c a.0 a.1))
-    (λ a same. Alters a.0 a.1 (ok_holds (KeepsDef (base_now c)) (alter_table (base_now c) t) a keeps same) refl)
+    (λ a same. let h : Cuts (base_now c) t.change a = ok_holds (Cuts (base_now c) t.change) (alter_table (base_now c) t) a cuts same in
+    Alters a.0 a.1 h.def t.change h.cut refl)
 
 -- ---- logs and purges
 
-log_leads : (s : State) (x : Session) (l : LogStatement) → Leads s x (log_change s.catalog l)
+log_leads : (s : State) (x : Event) (l : LogStatement) → Leads s x (log_change s.catalog l)
 log_leads s x (CreateLog l) =
     let c : Catalog = s.catalog in
     bind_ok (Left s x) (the_table (base_now c) l.table)
@@ -111,17 +119,23 @@ log_leads s x (DropLog name) =
     bind_ok (Left s x) (the_log c name) (λ l. unread (record (next_scn c) { logs = filter (λ k. not (k.table == l.table)) c.logs }))
     (λ l e. Logs (filter (λ k. not (k.table == l.table)) c.logs) refl)
 
-purge_leads : (s : State) (x : Session) (p : PurgeStatement) → Leads s x (purge_change s.catalog p)
-purge_leads s x (PurgeLog name) =
+-- an SCN that PURGE UNDO may ask for was reached
+undo_reached : (scn oldest : ℕ) (n : ℤ) → int_lt (pos scn) n ≡ false → is_below_zero n ≡ false → oldest ≤ scn → max oldest (nat_abs n) ≤ scn
+undo_reached scn oldest (pos n) past above low = let most : n ≤ scn = ltb-false scn n past in omega arith
+undo_reached scn oldest (negsuc n) past above low = absurd (true≢false above)
+
+purge_leads : (s : State) (x : Event) (p : PurgeStatement) → x.command ≡ commands.Other (about.Purge p) → Leads s x (purge_change s.catalog p)
+purge_leads s x (PurgeLog name) is =
     let c : Catalog = s.catalog in
     bind_ok (Left s x) (the_log c name)
     (λ l. Ok (record c { logs = change_where (λ k. k.table == l.table) (λ k. purged_log c l) c.logs }, length (log_rows c l) - length (log_rows c (purged_log c l))))
     (λ l e. Purges (change_where (λ k. k.table == l.table) (λ k. purged_log c l) c.logs) refl)
-purge_leads s x (PurgeUndo n) =
+purge_leads s x (PurgeUndo n) is =
     let c : Catalog = s.catalog in
     unless_ok (Left s x) (where_true (int_lt (pos c.scn) n) (FutureScn n c.scn))
     (record c { oldest = max c.oldest (nat_abs n) }, kept_versions c - versions_kept_above c (max c.oldest (nat_abs n)))
-    (λ none. Forgets (max c.oldest (nat_abs n)) (omega arith) refl)
+    (λ none. Forgets (max c.oldest (nat_abs n)) (omega arith)
+    (record { asked = n; command = is; reached = undo_reached c.scn c.oldest n (none_where (int_lt (pos c.scn) n) (FutureScn n c.scn) none) }) refl)
 
 -- ---- views and dimensions
 
@@ -131,7 +145,7 @@ switched_keeps on = record { def = λ v. refl; point = λ v. refl }
 unregistered_keeps : KeepsView unregistered
 unregistered_keeps = record { def = λ v. refl; point = λ v. refl }
 
-named_leads : (s : State) (x : Session) (name : List ℕ) (f : View → View) → KeepsView f → Leads s x (change_named_view s.catalog name f)
+named_leads : (s : State) (x : Event) (name : List ℕ) (f : View → View) → KeepsView f → Leads s x (change_named_view s.catalog name f)
 named_leads s x name f keeps =
     bind_ok (Left s x) (the_view s.catalog name) (λ v. unread (change_view v.def.view f s.catalog)) (λ v e. Switches v.def.view f keeps refl)
 
@@ -139,7 +153,7 @@ named_leads s x name f keeps =
 abbrev made : Catalog → NewView → StarQuery → Outcome
 made c v q = unless (fast_form_refusal c (new_view c v q)) (with_view c (new_view c v q), build_reads c (new_view c v q))
 
-view_leads : (s : State) (x : Session) (v : ViewStatement) → Leads s x (view_change s.catalog v)
+view_leads : (s : State) (x : Event) (v : ViewStatement) → Leads s x (view_change s.catalog v)
 view_leads s x (CreateView v) =
     let c : Catalog = s.catalog in
     unless_then_ok (Left s x)
@@ -154,7 +168,7 @@ view_leads s x (DropView name) =
     bind_ok (Left s x) (the_view c name) (λ v. unread (record c { views = filter (λ w. not (w.def.view == v.def.view)) c.views })) (λ v e. Drops v.def.view refl)
 view_leads s x (Unregister name) = named_leads s x name unregistered unregistered_keeps
 
-dimension_leads : (s : State) (x : Session) (d : DimensionStatement) → Leads s x (dimension_change s.catalog d)
+dimension_leads : (s : State) (x : Event) (d : DimensionStatement) → Leads s x (dimension_change s.catalog d)
 dimension_leads s x (CreateDimension d) =
     let c : Catalog = s.catalog in
     unless_ok (Left s x)
@@ -171,11 +185,11 @@ dimension_leads s x (DropDimension name) =
 
 -- ---- what is answered leaves the state
 
-done_moves : (s : State) (e : Event) (o : Outcome) → Leads s (own s e) o → Moved s e (done_or_refused s o).state
+done_moves : (s : State) (e : Event) (o : Outcome) → Leads s e o → Moved s e (done_or_refused s o).state
 done_moves s e (Ok p) h = leaves s e p.0 h
 done_moves s e (Err code) h = stays s e
 
-purged_moves : (s : State) (e : Event) (o : Outcome) → Leads s (own s e) o → Moved s e (purged_or_refused s o).state
+purged_moves : (s : State) (e : Event) (o : Outcome) → Leads s e o → Moved s e (purged_or_refused s o).state
 purged_moves s e (Ok p) h = leaves s e p.0 h
 purged_moves s e (Err code) h = stays s e
 
@@ -265,11 +279,11 @@ other_moves s e (about.Select a) is = query_moves s e (image_of s (own s e)) a (
 other_moves s e (about.ExplainQuery a) is = query_moves s e (image_of s (own s e)) a (explained (image_of s (own s e)) (own s e) a)
 other_moves s e (about.Show what) is = show_moves s e (image_of s (own s e)) what
 other_moves s e (about.Session setting) is = setting_moves s e setting is
-other_moves s e (about.Table t) is = guarded s e (done_or_refused s (table_change s.catalog t)) (done_moves s e (table_change s.catalog t) (table_leads s (own s e) t))
-other_moves s e (about.Log l) is = guarded s e (done_or_refused s (log_change s.catalog l)) (done_moves s e (log_change s.catalog l) (log_leads s (own s e) l))
-other_moves s e (about.View v) is = guarded s e (done_or_refused s (view_change s.catalog v)) (done_moves s e (view_change s.catalog v) (view_leads s (own s e) v))
-other_moves s e (about.Dimension d) is = guarded s e (done_or_refused s (dimension_change s.catalog d)) (done_moves s e (dimension_change s.catalog d) (dimension_leads s (own s e) d))
-other_moves s e (about.Purge p) is = guarded s e (purged_or_refused s (purge_change s.catalog p)) (purged_moves s e (purge_change s.catalog p) (purge_leads s (own s e) p))
+other_moves s e (about.Table t) is = guarded s e (done_or_refused s (table_change s.catalog t)) (done_moves s e (table_change s.catalog t) (table_leads s e t))
+other_moves s e (about.Log l) is = guarded s e (done_or_refused s (log_change s.catalog l)) (done_moves s e (log_change s.catalog l) (log_leads s e l))
+other_moves s e (about.View v) is = guarded s e (done_or_refused s (view_change s.catalog v)) (done_moves s e (view_change s.catalog v) (view_leads s e v))
+other_moves s e (about.Dimension d) is = guarded s e (done_or_refused s (dimension_change s.catalog d)) (done_moves s e (dimension_change s.catalog d) (dimension_leads s e d))
+other_moves s e (about.Purge p) is = guarded s e (purged_or_refused s (purge_change s.catalog p)) (purged_moves s e (purge_change s.catalog p) (purge_leads s e p is))
 other_moves s e (about.Refresh r) is = guarded s e (record { state = s; reply = None }) (stays s e)
 other_moves s e (about.Change c) is = guarded s e (record { state = s; reply = None }) (stays s e)
 
@@ -280,15 +294,15 @@ statement_moves s e (about.Refresh r) is =
     (λ part. begin_moves s e r is part) (λ part. install_moves s e r)
 statement_moves s e statement is = other_moves s e statement is
 
-commit_moves : (s : State) (e : Event) (b : Block) → Moved s e (commit s (own s e) b).state
-commit_moves s e b = guarded s e (commit_result s (effect (base_now s.catalog) (kept_versions s.catalog) b.statements)) (by (effect (base_now s.catalog) (kept_versions s.catalog) b.statements) refl)
+commit_moves : (s : State) (e : Event) (b : Block) → e.command ≡ commands.Block b → Moved s e (commit s (own s e) b).state
+commit_moves s e b is = guarded s e (commit_result s (effect (base_now s.catalog) (kept_versions s.catalog) b.statements)) (by (effect (base_now s.catalog) (kept_versions s.catalog) b.statements) refl)
   where
     by : (r : Result Progress Stopped) → effect (base_now s.catalog) (kept_versions s.catalog) b.statements ≡ r → Moved s e (commit_result s r).state
     by (Err stopped) same = stays s e
-    by (Ok p) same = leaves s e _ (Commits p b.statements same refl)
+    by (Ok p) same = leaves s e _ (Commits p b.statements same (ap is_block is) refl)
 
 command_moves : (s : State) (e : Event) (command : Command) → e.command ≡ command → Moved s e (step s e.entry.session command e.entry.part).state
-command_moves s e (commands.Block b) is = commit_moves s e b
+command_moves s e (commands.Block b) is = commit_moves s e b is
 command_moves s e (commands.Other statement) is = statement_moves s e statement is
 
 -- what each event leaves

@@ -19,12 +19,12 @@ use Rattle.def_history.specs.History.{kept_versions}
 use Rattle.def_journal.specs.Committing.{after_block, do_dues}
 use Rattle.def_journal.specs.Journal.{state_after, state_of}
 use Rattle.def_journal.specs.Refreshing.{change_view, refreshed_to}
-use Rattle.def_journal.specs.State.{Session, State, next_scn, with_base}
+use Rattle.def_journal.specs.State.{State, next_scn, with_base}
 use Rattle.def_journal.specs.Statements.{altered, new_view, with_view}
 use Rattle.wh_trace.proofs.Due.{KeepsDue, dues_keep, suspended}
 use Rattle.wh_trace.proofs.Growing.{SamePast, dues_past, past_bounded, reached}
 use Rattle.wh_trace.proofs.Listed.{Each, Pairs, each_append, each_left, each_right, each_weaker, find_alike, le_true, or_first, or_second, pairs_across, pairs_append, pairs_from, pairs_left, pairs_right}
-use Rattle.wh_trace.proofs.Moves.{Adds, Alters, Commits, Creates, Declares, Drops, Forgets, Installs, Logs, Move, Purges, Stays, Switches, Withdraws, own}
+use Rattle.wh_trace.proofs.Moves.{Adds, Alters, Commits, Creates, Declares, Drops, Forgets, Installs, Logs, Move, Purges, Stays, Switches, Withdraws}
 use Rattle.wh_trace.proofs.Outcomes.{EachOk, bind_ok, ok_holds}
 use Rattle.wh_trace.proofs.Stepping.{moves}
 use Rattle.wh_trace.proofs.Traces.{by_events, state_push}
@@ -35,13 +35,13 @@ use Rattle.wh_trace.specs.Reached.{IsSameView, catalog_of}
 -- ---- the base state of now
 
 -- the latest base state is that of now
-base_latest : (d : Catalog) (base : Base) (past : List (ℕ × Base)) → d.past ≡ (d.scn, base) ∷ past → base_now d ≡ base
+pub base_latest : (d : Catalog) (base : Base) (past : List (ℕ × Base)) → d.past ≡ (d.scn, base) ∷ past → base_now d ≡ base
 base_latest d base past is =
     ap (λ past. option_case (find (λ p. nat_le p.0 d.scn) past) [] (λ p. p.1)) is
     ∙ ap (λ b. option_case (cond b (Some (d.scn, base)) (find (λ p. nat_le p.0 d.scn) past)) [] (λ p. p.1)) (le_true d.scn d.scn (omega arith))
 
 -- without a new one it is the same at a later SCN
-base_later : (c d : Catalog) → d.past ≡ c.past → c.scn ≤ d.scn → Each (λ p. p.0 ≤ c.scn) c.past → base_now d ≡ base_now c
+pub base_later : (c d : Catalog) → d.past ≡ c.past → c.scn ≤ d.scn → Each (λ p. p.0 ≤ c.scn) c.past → base_now d ≡ base_now c
 base_later c d same later bounded =
     ap (λ past. option_case (find (λ p. nat_le p.0 d.scn) past) [] (λ p. p.1)) same
     ∙ ap (λ o. option_case o [] (λ p. p.1))
@@ -50,7 +50,7 @@ base_later c d same later bounded =
 
 -- ---- changes of rows and partitions leave the definitions
 
-with_table_defs : (base : Base) (n : ℕ) (t : Table) → t.def ≡ (table_at base n).def → defs_of (with_table base n t) ≡ defs_of base
+pub with_table_defs : (base : Base) (n : ℕ) (t : Table) → t.def ≡ (table_at base n).def → defs_of (with_table base n t) ≡ defs_of base
 with_table_defs [] n t same = refl
 with_table_defs (u ∷ us) zero t same = ap (λ d. d ∷ defs_of us) same
 with_table_defs (u ∷ us) (suc n) t same = ap (λ ds. u.def ∷ ds) (with_table_defs us n t same)
@@ -58,7 +58,7 @@ with_table_defs (u ∷ us) (suc n) t same = ap (λ ds. u.def ∷ ds) (with_table
 abbrev HasDefs : List TableDef → Progress → Type 0
 HasDefs defs p = defs_of p.base ≡ defs
 
-stop_keeps : (Q : Progress → Type 0) (at scanned : ℕ) (o : Option Refusal) (done : Progress) → Q done → EachOk Q (stop_at at scanned o done)
+pub stop_keeps : (Q : Progress → Type 0) (at scanned : ℕ) (o : Option Refusal) (done : Progress) → Q done → EachOk Q (stop_at at scanned o done)
 stop_keeps Q at scanned None done h = h
 stop_keeps Q at scanned (Some code) done h = tt
 
@@ -87,7 +87,7 @@ effect_keeps base kept ss p same =
 
 -- ---- what each event does to the definitions
 
-abbrev IsBounded : Catalog → Type 0
+abbrev pub IsBounded : Catalog → Type 0
 IsBounded c = Each (λ p. p.0 ≤ c.scn) c.past
 
 defs_same : (c d : Catalog) → base_now d ≡ base_now c → defs_now d ≡ defs_now c
@@ -122,15 +122,15 @@ longer_same c d same = record { later = []; is = same ∙ sym (append-nil (defs_
 longer_on : (c d e : Catalog) → Longer c d → Longer d e → Longer c e
 longer_on c d e h k = record { later = h.later ++ k.later; is = k.is ∙ ap (λ defs. defs ++ k.later) h.is ∙ append_assoc (defs_now c) h.later k.later }
 
-move_longer : (s : State) (x : Session) (d : Catalog) → IsBounded s.catalog → Move s x d → Longer s.catalog d
+move_longer : (s : State) (x : Event) (d : Catalog) → IsBounded s.catalog → Move s x d → Longer s.catalog d
 move_longer s x d bounded (Stays is) = subst (Longer s.catalog) (sym is) (longer_same s.catalog s.catalog refl)
-move_longer s x d bounded (Commits p ss same is) = subst (Longer s.catalog) (sym is) (longer_same s.catalog _ (commit_defs s.catalog p ss same))
-move_longer s x d bounded (Creates t new is) =
+move_longer s x d bounded (Commits p ss same block is) = subst (Longer s.catalog) (sym is) (longer_same s.catalog _ (commit_defs s.catalog p ss same))
+move_longer s x d bounded (Creates t new fits is) =
     subst (Longer s.catalog) (sym is) (record { later = (defined (defs_now s.catalog) t).def ∷ []; is = create_defs s.catalog (defined (defs_now s.catalog) t) })
-move_longer s x d bounded (Alters n a same is) = subst (Longer s.catalog) (sym is) (longer_same s.catalog _ (alter_defs s.catalog n a same))
+move_longer s x d bounded (Alters n a same change cut is) = subst (Longer s.catalog) (sym is) (longer_same s.catalog _ (alter_defs s.catalog n a same))
 move_longer s x d bounded (Logs logs is) = subst (Longer s.catalog) (sym is) (longer_same s.catalog _ (logs_defs s.catalog logs bounded))
 move_longer s x d bounded (Purges logs is) = subst (Longer s.catalog) (sym is) (longer_same s.catalog _ refl)
-move_longer s x d bounded (Forgets oldest more is) = subst (Longer s.catalog) (sym is) (longer_same s.catalog _ refl)
+move_longer s x d bounded (Forgets oldest more undo is) = subst (Longer s.catalog) (sym is) (longer_same s.catalog _ refl)
 move_longer s x d bounded (Adds v q new is) = subst (Longer s.catalog) (sym is) (longer_same s.catalog _ refl)
 move_longer s x d bounded (Switches n f keeps is) = subst (Longer s.catalog) (sym is) (longer_same s.catalog _ refl)
 move_longer s x d bounded (Installs n b begun is) = subst (Longer s.catalog) (sym is) (longer_same s.catalog _ refl)
@@ -139,13 +139,13 @@ move_longer s x d bounded (Declares a new is) = subst (Longer s.catalog) (sym is
 move_longer s x d bounded (Withdraws name is) = subst (Longer s.catalog) (sym is) (longer_same s.catalog _ refl)
 
 -- the past of a reached catalog is bounded
-bounded_of : (trace : List Event) → IsBounded (catalog_of trace)
+pub bounded_of : (trace : List Event) → IsBounded (catalog_of trace)
 bounded_of trace = past_bounded (catalog_of trace) (reached trace)
 
 push_longer : (trace : List Event) (e : Event) → Longer (catalog_of trace) (catalog_of (trace ++ e ∷ []))
 push_longer trace e =
     subst (λ (s : State). Longer (catalog_of trace) s.catalog) (sym (state_push trace e))
-    (move_longer (state_of trace) (own (state_of trace) e) (state_after (state_of trace) e).catalog (bounded_of trace) (moves (state_of trace) e).catalog)
+    (move_longer (state_of trace) e (state_after (state_of trace) e).catalog (bounded_of trace) (moves (state_of trace) e).catalog)
 
 trace_longer : (trace more : List Event) → Longer (catalog_of trace) (catalog_of (trace ++ more))
 trace_longer trace more = by_events (λ more. Longer (catalog_of trace) (catalog_of (trace ++ more))) none step more
@@ -319,14 +319,14 @@ withdraw_named c p h =
     (λ Q k. each_append Q (view_names c) kept (each_left Q (view_names c) (dimension_names c) k) (thin Q (each_right Q (view_names c) (dimension_names c) k)))
     fewer h
 
-move_named : (s : State) (x : Session) (d : Catalog) → IsBounded s.catalog → Move s x d → AreNamed s.catalog → AreNamed d
+move_named : (s : State) (x : Event) (d : Catalog) → IsBounded s.catalog → Move s x d → AreNamed s.catalog → AreNamed d
 move_named s x d bounded (Stays is) h = subst AreNamed (sym is) h
-move_named s x d bounded (Commits p ss same is) h = subst AreNamed (sym is) (named_same s.catalog (do_dues (after_block s.catalog p) p.changes).catalog (commit_defs s.catalog p ss same) (commit_names s.catalog p) h)
-move_named s x d bounded (Creates t new is) h = subst AreNamed (sym is) (create_named s.catalog (defined (defs_now s.catalog) t) new h)
-move_named s x d bounded (Alters n a same is) h = subst AreNamed (sym is) (named_same s.catalog (altered s.catalog n a) (alter_defs s.catalog n a same) (all_same s.catalog (altered s.catalog n a) refl refl) h)
+move_named s x d bounded (Commits p ss same block is) h = subst AreNamed (sym is) (named_same s.catalog (do_dues (after_block s.catalog p) p.changes).catalog (commit_defs s.catalog p ss same) (commit_names s.catalog p) h)
+move_named s x d bounded (Creates t new fits is) h = subst AreNamed (sym is) (create_named s.catalog (defined (defs_now s.catalog) t) new h)
+move_named s x d bounded (Alters n a same change cut is) h = subst AreNamed (sym is) (named_same s.catalog (altered s.catalog n a) (alter_defs s.catalog n a same) (all_same s.catalog (altered s.catalog n a) refl refl) h)
 move_named s x d bounded (Logs logs is) h = subst AreNamed (sym is) (named_same s.catalog (record (next_scn s.catalog) { logs = logs }) (logs_defs s.catalog logs bounded) (all_same s.catalog (record (next_scn s.catalog) { logs = logs }) refl refl) h)
 move_named s x d bounded (Purges logs is) h = subst AreNamed (sym is) h
-move_named s x d bounded (Forgets oldest more is) h = subst AreNamed (sym is) h
+move_named s x d bounded (Forgets oldest more undo is) h = subst AreNamed (sym is) h
 move_named s x d bounded (Adds v q new is) h = subst AreNamed (sym is) (add_named s.catalog (new_view s.catalog v q) new h)
 move_named s x d bounded (Switches n f keeps is) h = subst AreNamed (sym is) (named_same s.catalog (change_view n f s.catalog) refl (changed_names s.catalog n f keeps.def) h)
 move_named s x d bounded (Installs n b begun is) h = subst AreNamed (sym is) (named_same s.catalog (change_view n (refreshed_to b.image.scn) s.catalog) refl (changed_names s.catalog n (refreshed_to b.image.scn) (λ v. refl)) h)
@@ -340,7 +340,7 @@ trace_named = by_events (λ trace. AreNamed (catalog_of trace)) tt step
     step : (front : List Event) (e : Event) → AreNamed (catalog_of front) → AreNamed (catalog_of (front ++ e ∷ []))
     step front e h =
         subst (λ (s : State). AreNamed s.catalog) (sym (state_push front e))
-        (move_named (state_of front) (own (state_of front) e) (state_after (state_of front) e).catalog (bounded_of front) (moves (state_of front) e).catalog h)
+        (move_named (state_of front) e (state_after (state_of front) e).catalog (bounded_of front) (moves (state_of front) e).catalog h)
 
 pub table_laws : TableLaws
 table_laws =

@@ -8,11 +8,11 @@ use Rattle.def_history.specs.Catalog.{Catalog, View, view_numbered}
 use Rattle.def_journal.specs.Committing.{after_block}
 use Rattle.def_journal.specs.Journal.{state_after, state_of}
 use Rattle.def_journal.specs.Refreshing.{change_view, refreshed_to}
-use Rattle.def_journal.specs.State.{Session, State, empty_state}
+use Rattle.def_journal.specs.State.{State, empty_state}
 use Rattle.def_journal.specs.Statements.{new_view, with_view}
 use Rattle.wh_trace.proofs.Due.{KeepsDue, dues_keep, suspended}
 use Rattle.wh_trace.proofs.Listed.{Each, Pairs, each_append, each_filter, each_found, each_map, each_weaker, eq_false, find_changed, find_has, find_left, find_pushed, none_not_some, some_same, pairs_filter, pairs_map, pairs_push}
-use Rattle.wh_trace.proofs.Moves.{Adds, Alters, Commits, Creates, Declares, Drops, Forgets, Installs, Logs, Move, Purges, Stays, Switches, Withdraws, own}
+use Rattle.wh_trace.proofs.Moves.{Adds, Alters, Commits, Creates, Declares, Drops, Forgets, Installs, Logs, Move, Purges, Stays, Switches, Withdraws}
 use Rattle.wh_trace.proofs.Stepping.{moves}
 use Rattle.wh_trace.proofs.Traces.{state_more}
 use Rattle.wh_trace.specs.Reached.{IsSameView, catalog_of}
@@ -106,16 +106,16 @@ due_follows c =
       refreshes = λ d n h. follows_on c d (change_view n (refreshed_to d.scn) d) h (follows_changed d n (refreshed_to d.scn) (λ v. refl));
     }
 
-move_follows : (s : State) (x : Session) (d : Catalog) → Move s x d → Follows s.catalog d
+move_follows : (s : State) (x : Event) (d : Catalog) → Move s x d → Follows s.catalog d
 move_follows s x d (Stays is) = subst (Follows s.catalog) (sym is) (follows_same s.catalog s.catalog refl refl)
-move_follows s x d (Commits p statements same is) =
+move_follows s x d (Commits p statements same block is) =
     subst (Follows s.catalog) (sym is)
     (dues_keep (Follows s.catalog) (due_follows s.catalog) (after_block s.catalog p) p.changes (follows_same s.catalog (after_block s.catalog p) refl refl))
-move_follows s x d (Creates t new is) = subst (Follows s.catalog) (sym is) (follows_same s.catalog _ refl refl)
-move_follows s x d (Alters n a same is) = subst (Follows s.catalog) (sym is) (follows_same s.catalog _ refl refl)
+move_follows s x d (Creates t new fits is) = subst (Follows s.catalog) (sym is) (follows_same s.catalog _ refl refl)
+move_follows s x d (Alters n a same change cut is) = subst (Follows s.catalog) (sym is) (follows_same s.catalog _ refl refl)
 move_follows s x d (Logs logs is) = subst (Follows s.catalog) (sym is) (follows_same s.catalog _ refl refl)
 move_follows s x d (Purges logs is) = subst (Follows s.catalog) (sym is) (follows_same s.catalog _ refl refl)
-move_follows s x d (Forgets oldest more is) = subst (Follows s.catalog) (sym is) (follows_same s.catalog _ refl refl)
+move_follows s x d (Forgets oldest more undo is) = subst (Follows s.catalog) (sym is) (follows_same s.catalog _ refl refl)
 move_follows s x d (Adds v q new is) = subst (Follows s.catalog) (sym is) (follows_added s.catalog (new_view s.catalog v q) refl)
 move_follows s x d (Switches n f keeps is) = subst (Follows s.catalog) (sym is) (follows_changed s.catalog n f keeps.def)
 move_follows s x d (Installs n b begun is) = subst (Follows s.catalog) (sym is) (follows_changed s.catalog n (refreshed_to b.image.scn) (λ v. refl))
@@ -126,7 +126,7 @@ move_follows s x d (Withdraws name is) = subst (Follows s.catalog) (sym is) (fol
 events_follow : (s : State) (events : List Event) → Follows s.catalog (fold state_after s events).catalog
 events_follow s [] = follows_same s.catalog s.catalog refl refl
 events_follow s (e ∷ events) =
-    follows_on s.catalog (state_after s e).catalog (fold state_after (state_after s e) events).catalog (move_follows s (own s e) (state_after s e).catalog (moves s e).catalog)
+    follows_on s.catalog (state_after s e).catalog (fold state_after (state_after s e) events).catalog (move_follows s e (state_after s e).catalog (moves s e).catalog)
     (events_follow (state_after s e) events)
 
 pub trace_follows : (trace more : List Event) → Follows (catalog_of trace) (catalog_of (trace ++ more))
@@ -194,15 +194,15 @@ due_ordered =
       refreshes = λ d n h. ordered_changed d n (refreshed_to d.scn) (λ v. refl) h;
     }
 
-move_ordered : (s : State) (x : Session) (d : Catalog) → Move s x d → Ordered s.catalog → Ordered d
+move_ordered : (s : State) (x : Event) (d : Catalog) → Move s x d → Ordered s.catalog → Ordered d
 move_ordered s x d (Stays is) h = subst Ordered (sym is) h
-move_ordered s x d (Commits p statements same is) h =
+move_ordered s x d (Commits p statements same block is) h =
     subst Ordered (sym is) (dues_keep Ordered due_ordered (after_block s.catalog p) p.changes (ordered_same s.catalog (after_block s.catalog p) refl refl h))
-move_ordered s x d (Creates t new is) h = subst Ordered (sym is) (ordered_same s.catalog _ refl refl h)
-move_ordered s x d (Alters n a same is) h = subst Ordered (sym is) (ordered_same s.catalog _ refl refl h)
+move_ordered s x d (Creates t new fits is) h = subst Ordered (sym is) (ordered_same s.catalog _ refl refl h)
+move_ordered s x d (Alters n a same change cut is) h = subst Ordered (sym is) (ordered_same s.catalog _ refl refl h)
 move_ordered s x d (Logs logs is) h = subst Ordered (sym is) (ordered_same s.catalog _ refl refl h)
 move_ordered s x d (Purges logs is) h = subst Ordered (sym is) (ordered_same s.catalog _ refl refl h)
-move_ordered s x d (Forgets oldest more is) h = subst Ordered (sym is) (ordered_same s.catalog _ refl refl h)
+move_ordered s x d (Forgets oldest more undo is) h = subst Ordered (sym is) (ordered_same s.catalog _ refl refl h)
 move_ordered s x d (Adds v q new is) h = subst Ordered (sym is) (ordered_added s.catalog (new_view s.catalog v q) refl h)
 move_ordered s x d (Switches n f keeps is) h = subst Ordered (sym is) (ordered_changed s.catalog n f keeps.def h)
 move_ordered s x d (Installs n b begun is) h = subst Ordered (sym is) (ordered_changed s.catalog n (refreshed_to b.image.scn) (λ v. refl) h)
@@ -212,7 +212,7 @@ move_ordered s x d (Withdraws name is) h = subst Ordered (sym is) (ordered_same 
 
 events_ordered : (s : State) (events : List Event) → Ordered s.catalog → Ordered (fold state_after s events).catalog
 events_ordered s [] h = h
-events_ordered s (e ∷ events) h = events_ordered (state_after s e) events (move_ordered s (own s e) (state_after s e).catalog (moves s e).catalog h)
+events_ordered s (e ∷ events) h = events_ordered (state_after s e) events (move_ordered s e (state_after s e).catalog (moves s e).catalog h)
 
 pub trace_ordered : (trace : List Event) → Ordered (catalog_of trace)
 trace_ordered trace = events_ordered empty_state trace (record { ascending = tt; numbered = tt })

@@ -1,18 +1,22 @@
 -- Why the newest rows and the images that sessions took are enough: what each event of a trace leaves as it was.
 use Rattle.std.specs.List.{All, AllPairs, list_any}
 use Rattle.std.specs.Option.{ForSome}
-use Rattle.std.specs.Prelude.{◌≡◌, ◌≢◌, ◌<◌, ◌≤◌, List, None, Some, false, fold, ℕ, ◌++◌, ◌∷◌}
-use Rattle.wh_base.specs.Tables.{Base}
+use Rattle.std.specs.Prelude.{Err, Ok, [], length, ◌+◌, ◌≡◌, ◌≢◌, ◌<◌, ◌≤◌, List, None, Some, false, fold, ℕ, ◌++◌, ◌∷◌, true}
+use Rattle.wh_base.specs.Tables.{Base, table_at}
+use Rattle.wh_base.specs.declared.statements.Block.{Block}
+use Rattle.wh_base.specs.declared.statements.Command.TheVariants as commands
 use Rattle.wh_base.specs.declared.statements.Event.{Event}
 use Rattle.wh_base.specs.declared.tables.TableDef.{TableDef}
+use Rattle.def_effect.specs.Block.{Progress, Stopped, effect, enabled, max_rows, max_versions, new_versions}
 use Rattle.def_history.specs.Catalog.{Catalog, View, base_at, base_now, defs_now, names_taken, view_numbered}
-use Rattle.def_history.specs.History.{changes_of, maintained, touches_of}
+use Rattle.def_history.specs.History.{changes_of, kept_versions, maintained, touches_of}
 use Rattle.def_history.specs.Staleness.{content}
 use Rattle.def_journal.specs.Journal.{state_after, state_of}
 use Rattle.def_journal.specs.Refreshing.{begun_view}
-use Rattle.def_journal.specs.State.{Begun, State, session_of}
+use Rattle.def_journal.specs.State.{Begun, State, only_reads, session_of, with_base}
 use Rattle.def_meaning.specs.Meaning.{stored}
-use Rattle.wh_trace.specs.Reached.{HasBegun, HasOpened, IsSameView, Precedes, catalog_of, is_of}
+use Rattle.wh_trace.specs.Rows.{Fits, HasParents, IsDefined, IsGiven, IsOlder, IsUnique}
+use Rattle.wh_trace.specs.Reached.{HasBegun, HasOpened, IsSameView, Precedes, asks_below_zero, catalog_of, changes_versions, is_of}
 
 -- What a session keeps is changed by its own events alone, whatever the state.
 pub record SessionLaws : Type 0 where
@@ -96,3 +100,51 @@ pub record InstallLaws : Type 0 where
       → view_numbered (catalog_of (trace ++ more)) n ≡ Some w → w.point ≡ v.point → content (catalog_of (trace ++ more)) w ≡ content (catalog_of trace) v
   pub stands : (trace : List Event) (n k : ℕ) (b : Begun) (w : View) → (session_of (state_of trace) n).begun ≡ Some b → b.view ≡ Some k
       → view_numbered (catalog_of trace) k ≡ Some w → Stands (catalog_of trace) b w
+
+-- What holds of the rows of every table.
+pub record RowLaws : Type 0 where
+  -- the rowids ascend, from 1 at least up to how many were given at most
+  pub older : (trace : List Event) → All (λ t. AllPairs IsOlder t.rows) (base_now (catalog_of trace))
+  pub given : (trace : List Event) → All (λ t. All (IsGiven t.given) t.rows) (base_now (catalog_of trace))
+  -- the keys hold: no two rows have the same value in a key
+  pub keys : (trace : List Event) → All (λ t. All (IsUnique t) t.def.keys) (base_now (catalog_of trace))
+  -- the enabled foreign keys hold
+  pub parents : (trace : List Event) → All (λ t. All (HasParents (base_now (catalog_of trace)) t) (enabled t.def)) (base_now (catalog_of trace))
+  -- each row fits its table, and no table has too many
+  pub fits : (trace : List Event) → All (λ t. All (λ r. Fits t r.values) t.rows) (base_now (catalog_of trace))
+  pub few : (trace : List Event) → All (λ t. length t.rows ≤ max_rows) (base_now (catalog_of trace))
+  -- the definitions are right
+  pub defined : (trace : List Event) → All (IsDefined (defs_now (catalog_of trace))) (defs_now (catalog_of trace))
+
+-- A table changes by commits and by ALTER TABLE alone: where neither is noted after an SCN, the table is as it was then.
+pub record UntouchedLaws : Type 0 where
+  -- a table that came later has no rows
+  pub rows : (trace : List Event) (table p : ℕ) → changes_of (catalog_of trace) table p (catalog_of trace).scn ≡ []
+      → maintained (catalog_of trace) table p (catalog_of trace).scn ≡ false → (table_at (base_now (catalog_of trace)) table).rows ≡ (table_at (base_at (catalog_of trace) p) table).rows
+  -- one that was there is the same in all its parts
+  pub whole : (trace : List Event) (table p : ℕ) → changes_of (catalog_of trace) table p (catalog_of trace).scn ≡ []
+      → maintained (catalog_of trace) table p (catalog_of trace).scn ≡ false → table < length (base_at (catalog_of trace) p)
+      → table_at (base_now (catalog_of trace)) table ≡ table_at (base_at (catalog_of trace) p) table
+
+-- How many row versions are kept is known by counting those that each block makes.
+pub record VersionLaws : Type 0 where
+  -- an accepted block adds those that it makes
+  pub block : (trace : List Event) (e : Event) (b : Block) (p : Progress) → e.command ≡ commands.Block b → only_reads (session_of (state_of trace) e.entry.session) ≡ false
+      → effect (base_now (catalog_of trace)) (kept_versions (catalog_of trace)) b.statements ≡ Ok p → (catalog_of trace).oldest ≤ (catalog_of trace).scn
+      → kept_versions (catalog_of (trace ++ e ∷ [])) ≡ kept_versions (catalog_of trace) + new_versions p.base p.changes
+  -- a block that is refused leaves them, and so does one in a READ ONLY transaction
+  pub stopped : (trace : List Event) (e : Event) (b : Block) (stop : Stopped) → e.command ≡ commands.Block b
+      → effect (base_now (catalog_of trace)) (kept_versions (catalog_of trace)) b.statements ≡ Err stop → kept_versions (catalog_of (trace ++ e ∷ [])) ≡ kept_versions (catalog_of trace)
+  pub reading : (trace : List Event) (e : Event) (b : Block) → e.command ≡ commands.Block b → only_reads (session_of (state_of trace) e.entry.session) ≡ true
+      → kept_versions (catalog_of (trace ++ e ∷ [])) ≡ kept_versions (catalog_of trace)
+  -- every event but blocks and PURGE UNDO leaves them, refused or not: also CREATE TABLE and ALTER TABLE
+  pub others : (trace : List Event) (e : Event) → changes_versions e.command ≡ false → (catalog_of trace).oldest ≤ (catalog_of trace).scn
+      → kept_versions (catalog_of (trace ++ e ∷ [])) ≡ kept_versions (catalog_of trace)
+  -- the oldest SCN that AS OF may ask for was reached, where no PURGE UNDO asks for one below zero, as none that is read does
+  pub oldest : (trace : List Event) → list_any asks_below_zero trace ≡ false → (catalog_of trace).oldest ≤ (catalog_of trace).scn
+  -- a new base state without a change of a row leaves them
+  pub based : (trace : List Event) (base : Base) → (catalog_of trace).oldest ≤ (catalog_of trace).scn → kept_versions (with_base (catalog_of trace) base) ≡ kept_versions (catalog_of trace)
+  -- nothing but the past of the base state, the changes and the oldest SCN counts
+  pub same : (c d : Catalog) → d.past ≡ c.past → d.changes ≡ c.changes → d.oldest ≡ c.oldest → kept_versions d ≡ kept_versions c
+  -- there are never more than there may be
+  pub few : (trace : List Event) → kept_versions (catalog_of trace) ≤ max_versions

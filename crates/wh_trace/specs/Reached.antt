@@ -1,9 +1,13 @@
 -- What is said of the catalogs that a trace goes through.
-use Rattle.std.specs.Prelude.{◌≡◌, ◌≤◌, Bool, List, None, Some, ℕ, ◌++◌, ◌==◌, ◌∷◌, option_and_then, option_map}
-use Rattle.wh_base.specs.declared.statements.Command.TheVariants.{Other}
+use Rattle.std.specs.Prelude.{◌≡◌, ◌≤◌, Bool, List, None, Some, false, negsuc, pos, true, ℕ, ℤ, ◌++◌, ◌==◌, ◌∷◌, option_and_then, option_map}
+use Rattle.wh_base.specs.declared.statements.Command.{Command}
+use Rattle.wh_base.specs.declared.statements.Command.TheVariants.{Block, Other}
 use Rattle.wh_base.specs.declared.statements.Event.{Event}
+use Rattle.wh_base.specs.declared.statements.PurgeStatement.{PurgeStatement}
+use Rattle.wh_base.specs.declared.statements.PurgeStatement.TheVariants.{PurgeLog, PurgeUndo}
 use Rattle.wh_base.specs.declared.statements.RefreshView.{RefreshView}
 use Rattle.wh_base.specs.declared.statements.SessionStatement.TheVariants.{ReadOnly}
+use Rattle.wh_base.specs.declared.statements.Statement.{Statement}
 use Rattle.wh_base.specs.declared.statements.Statement.TheVariants as about
 use Rattle.wh_base.specs.declared.views.ViewDef.{ViewDef}
 use Rattle.wh_base.specs.declared.tables.TableDef.{TableDef}
@@ -19,6 +23,40 @@ catalog_of trace = (state_of trace).catalog
 -- The event is one of this session.
 abbrev pub is_of : ℕ → Event → Bool
 is_of n e = e.entry.session == n
+
+-- The number is below zero.
+abbrev pub is_below_zero : ℤ → Bool
+is_below_zero (pos n) = false
+is_below_zero (negsuc n) = true
+
+-- The command is a block or a PURGE UNDO: no other changes how many row versions are kept.
+abbrev pub changes_versions : Command → Bool
+changes_versions (Block b) = true
+changes_versions (Other statement) = statement_changes statement
+  where
+    is_undo : PurgeStatement → Bool
+    is_undo (PurgeLog name) = false
+    is_undo (PurgeUndo n) = true
+
+    statement_changes : Statement → Bool
+    statement_changes (about.Purge p) = is_undo p
+    statement_changes statement = false
+
+-- The event is a PURGE UNDO that asks for an SCN below zero. No text has one: there the number has no sign.
+abbrev pub asks_below_zero : Event → Bool
+asks_below_zero e = command_asks e.command
+  where
+    purge_asks : PurgeStatement → Bool
+    purge_asks (PurgeLog name) = false
+    purge_asks (PurgeUndo n) = is_below_zero n
+
+    statement_asks : Statement → Bool
+    statement_asks (about.Purge p) = purge_asks p
+    statement_asks statement = false
+
+    command_asks : Command → Bool
+    command_asks (Block b) = false
+    command_asks (Other statement) = statement_asks statement
 
 -- One definition is the other but for ENABLE or DISABLE QUERY REWRITE: the same number, name, query, tables, text, method and ON COMMIT.
 abbrev pub IsSameView : ViewDef → ViewDef → Type 0

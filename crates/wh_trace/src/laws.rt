@@ -1,6 +1,6 @@
 //! The laws of traces, in the words of `specs/Laws.antt`. None of these functions does anything: their contracts hold of every
 //! trace of every command, with all its refusals.
-ghost use Rattle.wh_trace.specs.Laws.{BaseLaws, ChangeLaws, ImageLaws, InstallLaws, SessionLaws, TableLaws, ViewLaws};
+ghost use Rattle.wh_trace.specs.Laws.{BaseLaws, ChangeLaws, ImageLaws, InstallLaws, RowLaws, SessionLaws, TableLaws, UntouchedLaws, VersionLaws, ViewLaws};
 
 /// An event of a session leaves every other session as it is.
 pub fn sessions_stand_apart()
@@ -35,4 +35,19 @@ pub fn tables_stay()
 /// What a refresh computes over its image is what its view stores at the image's SCN, as long as the view is there.
 pub fn installs_are_right()
     ensures { InstallLaws }
+{}
+
+/// The rows of every table meet all that its definition asks of them.
+pub fn rows_are_right()
+    ensures { RowLaws }
+{}
+
+/// A table changes by commits and by ALTER TABLE alone.
+pub fn changes_are_of_commits()
+    ensures { UntouchedLaws }
+{}
+
+/// A block adds to the row versions that are kept those that it makes.
+pub fn versions_are_counted()
+    ensures { VersionLaws }
 {}
