@@ -1,0 +1,5 @@
+pub mod Bounds
+pub mod Made
+pub mod Places
+pub mod Sizes
+pub mod Sorts
