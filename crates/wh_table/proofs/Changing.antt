@@ -42,6 +42,15 @@ pub either_way : {T E : Type 0} (r : Result T E) (new changed old : List Stored)
 either_way (Ok x) new changed old P ok err p q = subst P (sym ok) p
 either_way (Err e) new changed old P ok err p q = subst P (sym err) q
 
+-- the same where Ok also says something that it rests on
+pub either_way_by : {T E : Type 0} (r : Result T E) (new changed old : List Stored) (F : Type 0) (P : List Stored → Type 0) → OnOk r F → OnOk r (new ≡ changed) → OnErr r (new ≡ old) → (F → P changed) → P old → P new
+either_way_by (Ok x) new changed old F P by_ok ok err p q = subst P (sym ok) (p by_ok)
+either_way_by (Err e) new changed old F P by_ok ok err p q = subst P (sym err) q
+
+-- one place more was left in the table with this number
+abbrev pub HasPlace : List Stored → ℕ → Type 0
+HasPlace tables n = IfSome (slice_get tables n) (λ s. length s.versions < 2 ^ 32 - 1)
+
 -- ---- what is kept
 
 each_change : (P : Stored → Type 0) (change : Stored → Stored) (tables : List Stored) (n : ℕ) → Each P tables → ((s : Stored) → slice_get tables n ≡ Some s → P s → P (change s)) → Each P (with_change n change tables)
@@ -89,10 +98,10 @@ kept_change scn change tables defs parts n h same f =
     }
 
 pub kept_insert : (scn : ℕ) (tables : List Stored) (defs : List TableDef) (parts : List Part) (n : ℕ) (values : List Value) → AreKept scn tables defs parts
-    → IfSome (slice_get tables n) (λ s. live_count s < most_live) → IsSmallRow values → AreKept scn (with_change n (inserted scn values) tables) defs parts
-kept_insert scn tables defs parts n values h room small =
+    → IfSome (slice_get tables n) (λ s. live_count s < most_live) → HasPlace tables n → IsSmallRow values → AreKept scn (with_change n (inserted scn values) tables) defs parts
+kept_insert scn tables defs parts n values h room few small =
     kept_change scn (inserted scn values) tables defs parts n h (λ s. refl)
-    (λ s e k. (kept_inserted s scn values k.0 k.1 (if_there tables n s (λ s. live_count s < most_live) e room) small, last_inserted s scn values k.1))
+    (λ s e k. (kept_inserted s scn values k.0 k.1 (if_there tables n s (λ s. live_count s < most_live) e room) (if_there tables n s (λ s. length s.versions < 2 ^ 32 - 1) e few) small, last_inserted s scn values k.1))
 
 pub kept_delete : (scn : ℕ) (tables : List Stored) (defs : List TableDef) (parts : List Part) (n place : ℕ) → AreKept scn tables defs parts → LivesIn tables n place
     → AreKept scn (with_change n (deleted scn place) tables) defs parts
@@ -101,12 +110,12 @@ kept_delete scn tables defs parts n place h lives =
     (λ s e k. (let v = live_version s.versions place (if_there tables n s (λ s. LivesAt s.versions place) e lives) in
     (kept_deleted s scn place v.0 k.0 k.1 v.1.0 v.1.1, last_deleted s scn place v.0 v.1.0 v.1.1 k.1)))
 
-pub kept_update : (scn : ℕ) (tables : List Stored) (defs : List TableDef) (parts : List Part) (n place : ℕ) (values : List Value) → AreKept scn tables defs parts → LivesIn tables n place → IsSmallRow values
+pub kept_update : (scn : ℕ) (tables : List Stored) (defs : List TableDef) (parts : List Part) (n place : ℕ) (values : List Value) → AreKept scn tables defs parts → LivesIn tables n place → HasPlace tables n → IsSmallRow values
     → AreKept scn (with_change n (updated scn place values) tables) defs parts
-kept_update scn tables defs parts n place values h lives small =
+kept_update scn tables defs parts n place values h lives few small =
     kept_change scn (updated scn place values) tables defs parts n h (λ s. refl)
     (λ s e k. (let v = live_version s.versions place (if_there tables n s (λ s. LivesAt s.versions place) e lives) in
-    (kept_updated s scn place values v.0 k.0 k.1 v.1.0 v.1.1 small, last_updated s scn place values v.0 v.1.0 v.1.1 k.1)))
+    (kept_updated s scn place values v.0 k.0 k.1 v.1.0 v.1.1 (if_there tables n s (λ s. length s.versions < 2 ^ 32 - 1) e few) small, last_updated s scn place values v.0 v.1.0 v.1.1 k.1)))
 
 -- the table with this number wasn't changed after the SCN
 pub settled_there : (scn : ℕ) (tables : List Stored) (defs : List TableDef) (parts : List Part) (n : ℕ) (s : Stored) → AreKept scn tables defs parts → slice_get tables n ≡ Some s → last_scn s.versions ≤ scn

@@ -17,6 +17,14 @@ some_same x y e = cc
 pub ended_is : (vs : List Version) (place scn : ℕ) (v : Version) → slice_get vs place ≡ Some v → ended_at place scn vs ≡ slice_set vs place (ended scn v)
 ended_is vs place scn v e = ap (λ o. option_case o vs (λ w. slice_set vs place (ended scn w))) e
 
+pub length_set : (vs : List Version) (place : ℕ) (v : Version) → length (slice_set vs place v) ≡ length vs
+length_set [] place v = refl
+length_set (w ∷ vs) zero v = refl
+length_set (w ∷ vs) (suc place) v = ap suc (length_set vs place v)
+
+pub length_ended : (vs : List Version) (place scn : ℕ) (v : Version) → slice_get vs place ≡ Some v → length (ended_at place scn vs) ≡ length vs
+length_ended vs place scn v e = ap length (ended_is vs place scn v e) ∙ length_set vs place (ended scn v)
+
 -- ---- rowids given
 
 pub given_append : (at : ℕ) (vs : List Version) (v : Version) → given_at at (vs ++ v ∷ []) ≡ max (given_at at vs) (cond (nat_le v.born at) v.rowid 0)

@@ -1,5 +1,5 @@
 -- What is true of each table stays true with each call.
-use Rattle.std.proofs.Common.{◌≡◌, ◌∙◌, sym, ap, refl, subst, arith, ℕ, suc, ◌+◌, ◌<◌, ◌≤◌, max, Bool, true, false, cond, ◌&&◌, List, [], ◌∷◌, ◌++◌, length, Option, None, Some, IsTrue, IsSomeAnd, slice_get, slice_set, nat_le, ◌-◌}
+use Rattle.std.proofs.Common.{◌≡◌, ◌∙◌, sym, ap, refl, subst, arith, ℕ, suc, ◌+◌, ◌<◌, ◌≤◌, ◌^◌, max, Bool, true, false, cond, ◌&&◌, List, [], ◌∷◌, ◌++◌, length, Option, None, Some, IsTrue, IsSomeAnd, slice_get, slice_set, nat_le, ◌-◌}
 use Rattle.std.proofs.lemmas.Bool.{le-leb, leb-true}
 use Rattle.std.proofs.lemmas.List.{length_push}
 use Rattle.std.specs.List.{All, filter, list_all}
@@ -12,7 +12,7 @@ use Rattle.wh_base.specs.declared.values.Value.{Value}
 use Rattle.wh_segment.specs.Versions.{born_at, ended, ended_at, is_live, replaced_at}
 use Rattle.wh_segment.specs.declared.version.Version.{Version}
 use Rattle.wh_table.specs.Stored.{IsHeld, IsNamed, IsSmallRow, IsStored, Stored, begun, deleted, given_at, inserted, last_scn, live_count, rowid_at, rows_living, updated}
-use Rattle.wh_table.proofs.Counting.{all_from, all_named_ended, count_append, count_ended, each_from, each_get, ended_is, given_append, given_ended, last_append, last_ended}
+use Rattle.wh_table.proofs.Counting.{all_from, all_named_ended, count_append, count_ended, each_from, each_get, ended_is, given_append, given_ended, last_append, last_ended, length_ended}
 use Rattle.wh_table.proofs.Living.{differ_filter, differ_from, differ_push, filter_apart, have_from, settled_count}
 use Rattle.wh_table.proofs.Ordered.{Each, each_append, each_weaker, keeps}
 use Rattle.wh_table.proofs.Seen.{IsRowOf, name_at, new_row, rowid_is, rows_deleted, rows_inserted, rows_less, rows_named, rows_updated}
@@ -64,6 +64,8 @@ kept_begun def = record {
   small = λ at. refl;
   named = all_from (IsNamed 0) [] tt;
   given = λ at h. refl;
+  placed = omega arith;
+  bounded = omega arith;
 }
 
 -- ---- a row more
@@ -88,9 +90,11 @@ inserted_given s scn values at h k =
     let all = h.given at settled in
     given_append at s.versions (born_at scn (s.given + 1) 0 values) ∙ ap (λ b. max (given_at at s.versions) (cond b (s.given + 1) 0)) (le-leb scn at later) ∙ omega (arith, all)
 
-pub kept_inserted : (s : Stored) (scn : ℕ) (values : List Value) → IsStored s → last_scn s.versions ≤ scn → live_count s < most_live → IsSmallRow values → IsStored (inserted scn values s)
-kept_inserted s scn values h settled room small_values =
+pub kept_inserted : (s : Stored) (scn : ℕ) (values : List Value) → IsStored s → last_scn s.versions ≤ scn → live_count s < most_live → length s.versions < 2 ^ 32 - 1 → IsSmallRow values → IsStored (inserted scn values s)
+kept_inserted s scn values h settled room few small_values =
     let row : RowAt = new_row (s.given + 1) values in
+    let longer = length_push s.versions (born_at scn (s.given + 1) 0 values) in
+    let before : s.given ≤ length s.versions = h.placed in
     record {
       few = λ at. either (λ rows. length rows ≤ most_live) (nat_le scn at) _ _ _ (rows_inserted s scn values at) (λ f. few_more at f) (h.few at);
       differ = λ at. either HaveRowids (nat_le scn at) _ _ _ (rows_inserted s scn values at)
@@ -98,6 +102,8 @@ kept_inserted s scn values h settled room small_values =
       small = λ at. either AreSmall (nat_le scn at) _ _ _ (rows_inserted s scn values at) (λ f. small_push (rows_living at s) row (h.small at) small_values) (h.small at);
       named = all_from (IsNamed (s.given + 1)) (inserted scn values s).versions (more_named s.given scn values s.versions (each_from (IsNamed s.given) s.versions h.named));
       given = λ at k. inserted_given s scn values at h k;
+      placed = omega (arith, longer, before);
+      bounded = omega (arith, longer, few);
     }
   where
     few_more : (at : ℕ) → nat_le scn at ≡ true → length (rows_living at s ++ new_row (s.given + 1) values ∷ []) ≤ most_live
@@ -119,6 +125,8 @@ kept_deleted s scn place v h settled e live = record {
   named = all_from (IsNamed s.given) (ended_at place scn s.versions) (all_named_ended s.given s.versions place scn v e (each_from (IsNamed s.given) s.versions h.named));
   given = λ at k.
       (let last = last_ended s.versions place scn v e live in let before : last_scn s.versions ≤ at = omega (arith, last, k) in given_ended at s.versions place scn v e ∙ h.given at before);
+  placed = subst (λ n. s.given ≤ n) (sym (length_ended s.versions place scn v e)) h.placed;
+  bounded = subst (λ n. n < 2 ^ 32) (sym (length_ended s.versions place scn v e)) h.bounded;
 }
 
 -- ---- a row with other values
@@ -142,9 +150,12 @@ updated_given s scn place values v at h e live k =
     ∙ ap (λ b. max (given_at at s.versions) (cond b (rowid_at s place) 0)) (le-leb scn at later)
     ∙ omega (arith, all, name, id)
 
-pub kept_updated : (s : Stored) (scn place : ℕ) (values : List Value) (v : Version) → IsStored s → last_scn s.versions ≤ scn → slice_get s.versions place ≡ Some v → is_live v ≡ true → IsSmallRow values
+pub kept_updated : (s : Stored) (scn place : ℕ) (values : List Value) (v : Version) → IsStored s → last_scn s.versions ≤ scn → slice_get s.versions place ≡ Some v → is_live v ≡ true → length s.versions < 2 ^ 32 - 1 → IsSmallRow values
     → IsStored (updated scn place values s)
-kept_updated s scn place values v h settled e live small_values =
+kept_updated s scn place values v h settled e live few small_values =
+    let longer = length_push (ended_at place scn s.versions) (born_at scn (rowid_at s place) 0 values) in
+    let as_long = length_ended s.versions place scn v e in
+    let before : s.given ≤ length s.versions = h.placed in
     let row : RowAt = new_row (rowid_at s place) values in
     let name : IsNamed s.given v = name_at s place v h e in
     let id : rowid_at s place ≡ v.rowid = rowid_is s place v e in
@@ -163,6 +174,8 @@ kept_updated s scn place values v h settled e live small_values =
           (each_append (IsNamed s.given) (ended_at place scn s.versions) (born_at scn (rowid_at s place) 0 values ∷ []) (all_named_ended s.given s.versions place scn v e (each_from (IsNamed s.given) s.versions h.named))
           (record { first = omega (arith, first, id); last = omega (arith, last, id); unmarked = refl }, tt));
       given = λ at k. updated_given s scn place values v at h e live k;
+      placed = omega (arith, longer, as_long, before);
+      bounded = omega (arith, longer, as_long, few);
     }
   where
     few_same : (at : ℕ) → length (filter (keeps v.rowid) (rows_living at s)) + 1 ≡ length (rows_living at s) → length (filter (keeps v.rowid) (rows_living at s) ++ new_row (rowid_at s place) values ∷ []) ≤ most_live
@@ -208,13 +221,21 @@ live_version vs place h = by (slice_get vs place) refl h
 abbrev pub stored_as : TableDef → List Version → ℕ → Stored
 stored_as def versions given = record { def = def; versions = versions; given = given }
 
+-- one place was left for the version
+pub few_inserted : (vs ws : List Version) (v : Version) → length ws < 2 ^ 32 → ws ≡ vs ++ v ∷ [] → length vs < 2 ^ 32 - 1
+few_inserted vs ws v bounded e =
+    let longer = length_push vs v in
+    let more = ap length e in
+    omega (arith, longer, more, bounded)
+
 pub held_insert : (live changed : ℕ) (def : TableDef) (vs ws : List Version) (given scn : ℕ) (values : List Value) → IsHeld live changed (stored_as def vs given)
-    → last_scn vs ≤ scn → live_count (stored_as def vs given) < most_live → IsSmallRow values → ws ≡ vs ++ born_at scn (given + 1) 0 values ∷ []
+    → last_scn vs ≤ scn → live_count (stored_as def vs given) < most_live → length ws < 2 ^ 32 → IsSmallRow values → ws ≡ vs ++ born_at scn (given + 1) 0 values ∷ []
     → IsHeld (live + 1) scn (stored_as def ws (given + 1))
-held_insert live changed def vs ws given scn values h settled room small e =
+held_insert live changed def vs ws given scn values h settled room bounded small e =
+    let few = few_inserted vs ws (born_at scn (given + 1) 0 values) bounded e in
     let last : last_scn (vs ++ born_at scn (given + 1) 0 values ∷ []) ≡ max (last_scn vs) scn = inserted_last vs scn (given + 1) values in
     subst (λ us. IsHeld (live + 1) scn (stored_as def us (given + 1))) (sym e) (record {
-      stored = kept_inserted (stored_as def vs given) scn values h.stored settled room small;
+      stored = kept_inserted (stored_as def vs given) scn values h.stored settled room few small;
       counted = ap (λ n. n + 1) h.counted ∙ sym (count_inserted (stored_as def vs given) scn values);
       latest = omega (arith, last, settled);
     })
@@ -243,13 +264,24 @@ replaced_is def vs given scn place values named there =
     ∙ (λ i. slice_set vs place (ended scn v.0) ++ born_at scn (sym id i) (unmarked i) values ∷ [])
     ∙ ap (λ us. us ++ born_at scn (rowid_at (stored_as def vs given) place) 0 values ∷ []) (sym (ended_is vs place scn v.0 v.1.0))
 
-pub held_update : (live changed : ℕ) (def : TableDef) (vs ws : List Version) (given scn place : ℕ) (values : List Value) → IsHeld live changed (stored_as def vs given)
-    → last_scn vs ≤ scn → LivesAt vs place → IsSmallRow values → ws ≡ replaced_at place scn values vs → IsHeld live scn (stored_as def ws given)
-held_update live changed def vs ws given scn place values h settled there small e =
+-- one place was left for the successor
+pub few_replaced : (def : TableDef) (vs ws : List Version) (given scn place : ℕ) (values : List Value) → All (IsNamed given) vs → LivesAt vs place → length ws < 2 ^ 32
+    → ws ≡ replaced_at place scn values vs → length vs < 2 ^ 32 - 1
+few_replaced def vs ws given scn place values named there bounded e =
     let v = live_version vs place there in
+    let longer = length_push (ended_at place scn vs) (born_at scn (rowid_at (stored_as def vs given) place) 0 values) in
+    let as_long = length_ended vs place scn v.0 v.1.0 in
+    let more = ap length (e ∙ replaced_is def vs given scn place values named there) in
+    omega (arith, longer, as_long, more, bounded)
+
+pub held_update : (live changed : ℕ) (def : TableDef) (vs ws : List Version) (given scn place : ℕ) (values : List Value) → IsHeld live changed (stored_as def vs given)
+    → last_scn vs ≤ scn → LivesAt vs place → length ws < 2 ^ 32 → IsSmallRow values → ws ≡ replaced_at place scn values vs → IsHeld live scn (stored_as def ws given)
+held_update live changed def vs ws given scn place values h settled there bounded small e =
+    let v = live_version vs place there in
+    let few = few_replaced def vs ws given scn place values h.stored.named there bounded e in
     let last = updated_last (stored_as def vs given) scn place values v.0 v.1.0 v.1.1 in
     subst (λ xs. IsHeld live scn (stored_as def xs given)) (sym (e ∙ replaced_is def vs given scn place values h.stored.named there)) (record {
-      stored = kept_updated (stored_as def vs given) scn place values v.0 h.stored settled v.1.0 v.1.1 small;
+      stored = kept_updated (stored_as def vs given) scn place values v.0 h.stored settled v.1.0 v.1.1 few small;
       counted = h.counted ∙ sym (count_updated (stored_as def vs given) scn place values v.0 v.1.0 v.1.1);
       latest = omega (arith, last, settled);
     })

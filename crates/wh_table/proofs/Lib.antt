@@ -5,3 +5,4 @@ pub mod Seen
 pub mod Keeping
 pub mod Reading
 pub mod Changing
+pub mod Numbered

@@ -1,9 +1,9 @@
 -- What a table stores, what each call makes of it, and which table of the definitions it is at an SCN.
 use Rattle.std.specs.List.{All, list_all}
-use Rattle.std.specs.Prelude.{◌≡◌, ◌≤◌, IsTrue, List, None, Option, Some, [], cond, filter, length, map, max, nat_le, slice_get, unwrap_or, ℕ, ◌++◌, ◌+◌, ◌∷◌}
+use Rattle.std.specs.Prelude.{◌≡◌, ◌<◌, ◌≤◌, ◌^◌, ◌&&◌, Bool, IsTrue, List, None, Option, Some, [], cond, filter, length, map, max, nat_le, nat_lt, slice_get, unwrap_or, ℕ, ◌++◌, ◌+◌, ◌∷◌}
 use Rattle.wh_base.specs.Lists.{option_case, sorted_by}
 use Rattle.wh_base.specs.Tables.{AreSmall, Base, HaveRowids, Places, Row, Table, live_rows, most_live, rowid_cmp}
-use Rattle.wh_base.specs.Values.{is_small}
+use Rattle.wh_base.specs.Values.{is_small, number_limit}
 use Rattle.wh_base.specs.declared.tables.Change.{Change}
 use Rattle.wh_base.specs.declared.tables.RowAt.{RowAt}
 use Rattle.wh_base.specs.declared.tables.TableDef.{TableDef}
@@ -59,6 +59,10 @@ seen at s =
 -- the base state that these tables are at an SCN
 abbrev pub base_seen : ℕ → List Stored → Base
 base_seen at tables = map (seen at) tables
+
+-- rowids and the numbers of partitions are below 10^15, as the numbers in the rows are
+abbrev pub has_small_numbers : Table → Bool
+has_small_numbers t = list_all (λ r. nat_lt r.rowid number_limit) t.rows && list_all (λ p. nat_lt p.number number_limit) t.parts
 
 -- ---- now
 
@@ -117,13 +121,16 @@ pub record IsNamed (given : ℕ) (v : Version) : Type 0 where
   pub last : v.rowid ≤ given
   pub unmarked : v.part ≡ 0
 
--- At each SCN the rows are no more than a table may have, their rowids differ, and the numbers in them are small. Each rowid was given, and all of them were by the last change.
+-- At each SCN the rows are no more than a table may have, their rowids differ, and the numbers in them are small. Each rowid was given, and all of them were by the last change. No more rowids
+-- were given than there are places, which stay for good and are fewer than 2^32.
 pub record IsStored (s : Stored) : Type 0 where
   pub few : (at : ℕ) → length (rows_living at s) ≤ most_live
   pub differ : (at : ℕ) → HaveRowids (rows_living at s)
   pub small : (at : ℕ) → AreSmall (rows_living at s)
   pub named : All (IsNamed s.given) s.versions
   pub given : (at : ℕ) → last_scn s.versions ≤ at → given_at at s.versions ≡ s.given
+  pub placed : s.given ≤ length s.versions
+  pub bounded : length s.versions < 2 ^ 32
 
 -- that holds of a table of which so many rows live, last changed at an SCN
 pub record IsHeld (live changed : ℕ) (s : Stored) : Type 0 where

@@ -6,7 +6,7 @@ use wh_base::seq::Seq;
 use wh_base::tables::{ColumnDef, ForeignDef, TableDef};
 
 /// The same definition of a table. An error says that memory ran out.
-pub(crate) fn copied_def(alloc: Global, def: &TableDef) -> Result<TableDef, AllocError>
+pub fn copied_def(alloc: Global, def: &TableDef) -> Result<TableDef, AllocError>
     ensures { IfOk result (λ d. d ≡ def.now) }
 {
     Ok(TableDef {

@@ -6,6 +6,7 @@ mod meaning;
 mod table;
 mod tables;
 
+pub use def_copy::copied_def;
 pub use meaning::{laws, tables_law};
 pub use table::Table;
 pub use tables::Tables;

@@ -1,10 +1,11 @@
 //! What a table means.
-ghost use Rattle.std.specs.Prelude.{◌≡◌, ℕ};
+ghost use Rattle.std.specs.List.{list_all};
+ghost use Rattle.std.specs.Prelude.{◌≡◌, map, true, ℕ};
 ghost use Rattle.def_meaning.specs.Joined.{rows_at};
 ghost use Rattle.wh_base.specs.Tables.{rows_shown};
-ghost use Rattle.wh_table.specs.Kept.{tables_at};
+ghost use Rattle.wh_table.specs.Kept.{no_part, tables_at};
 ghost use Rattle.wh_table.specs.Laws.{Laws};
-ghost use Rattle.wh_table.specs.Stored.{base_seen};
+ghost use Rattle.wh_table.specs.Stored.{base_seen, has_small_numbers};
 
 use crate::table::Table;
 use crate::tables::Tables;
@@ -19,11 +20,14 @@ pub fn laws<L>(_table: &Table<L>)
     ensures { Laws }
 {}
 
-/// The law of tables: the rows that they show of each table are those of the base state that they are at their SCN.
+/// The laws of tables at their SCN: the rows that they show of each table are those of the base state that they are, each
+/// rowid there is below 10^15 as the numbers in the rows are, and no table there has partitions.
 ///
 /// It does nothing.
 pub fn tables_law<L>(tables: &Tables<L>)
-    ensures { (n : ℕ) → rows_shown (tables_at tables.now.scn tables.now.tables.items) n ≡ rows_at (base_seen tables.now.scn tables.now.tables.items) n }
+    ensures shows { (n : ℕ) → rows_shown (tables_at tables.now.scn tables.now.tables.items) n ≡ rows_at (base_seen tables.now.scn tables.now.tables.items) n }
+    ensures numbered { list_all has_small_numbers (base_seen tables.now.scn tables.now.tables.items) ≡ true }
+    ensures parts { map no_part tables.now.tables.items ≡ map (λ t. t.parts) (base_seen tables.now.scn tables.now.tables.items) }
 {
     let _ = tables.scn();
 }

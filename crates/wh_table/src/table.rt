@@ -90,18 +90,20 @@ impl<L> Table<L> {
     /// A new row from an SCN on. Its rowid is the next number, and it lives at a new place, which is given. After an error,
     /// which says that memory ran out or that there are 2^32 - 1 places, the table is as it was.
     ///
-    /// The SCN mustn't be below that of an earlier change, fewer than 262,144 rows may live, each number in the row must be
-    /// below 10^15 in size, and fewer than 2^64 - 1 rowids may have been given.
+    /// The SCN mustn't be below that of an earlier change, fewer than 262,144 rows may live, and each number in the row must
+    /// be below 10^15 in size. No more rowids were given than there are places, so the next is there.
     pub fn insert(&mut self, values: Seq<Value>, scn: u64) -> Result<u64, AllocError>
         requires after { last_scn self.old.versions ≤ scn }
         requires room { live_count self.old < most_live }
         requires small { IsSmallRow values }
-        requires rowids { self.old.given < 2 ^ 64 - 1 }
         ensures place { IfOk result (λ place. place ≡ length self.old.versions) }
+        ensures few { OnOk result (length self.old.versions < 2 ^ 32 - 1) }
         ensures ok { OnOk result (self.new ≡ inserted scn values self.old) }
         ensures err { OnErr result (self.new ≡ self.old) }
     {
         let place = self.segment.append(self.given + 1, 0, values, scn)?;
+        // Places stay fewer than 2^32, and so do the rowids given.
+        let _places = self.segment.len();
         self.given += 1;
         self.live += 1;
         self.changed = scn;
@@ -133,10 +135,13 @@ impl<L> Table<L> {
         requires lives { IsSomeAnd (slice_get self.old.versions place) (λ v. IsTrue (is_live v)) }
         requires small { IsSmallRow values }
         ensures place { IfOk result (λ place. place ≡ length self.old.versions) }
+        ensures few { OnOk result (length self.old.versions < 2 ^ 32 - 1) }
         ensures ok { OnOk result (self.new ≡ updated scn place values self.old) }
         ensures err { OnErr result (self.new ≡ self.old) }
     {
         let new_place = self.segment.replace(place, values, scn)?;
+        // Places stay fewer than 2^32.
+        let _places = self.segment.len();
         self.changed = scn;
         Ok(new_place)
     }

@@ -20,8 +20,8 @@ const MOST: usize = 0xffff_ffff;
 /// copy goes on from here on its own, and its SCN can be raised.
 #[derive(Drop)]
 pub struct Tables<L> {
-    scn: u64,
-    tables: Vec<Table<L>>,
+    pub scn: u64,
+    pub tables: Vec<Table<L>>,
     defs: Shared<Seq<TableDef>>,
     no_parts: Seq<Part>,
     ghost kept: { AreKept scn tables.items defs no_parts },
@@ -119,7 +119,6 @@ impl<L> Tables<L> {
     pub fn insert(&mut self, number: u32, values: Seq<Value>) -> Result<u64, AllocError>
         requires table { number < length self.old.tables.items }
         requires room { IfSome (slice_get self.old.tables.items number) (λ t. live_count t < most_live) }
-        requires rowids { IfSome (slice_get self.old.tables.items number) (λ t. t.given < 2 ^ 64 - 1) }
         requires small { IsSmallRow values }
         ensures scn { self.new.scn ≡ self.old.scn }
         ensures place { IfSome (slice_get self.old.tables.items number) (λ t. IfOk result (λ place. place ≡ length t.versions)) }
@@ -221,9 +220,9 @@ fn insert_into<L>(
     requires table { number < length tables.old.items }
     requires after { IfSome (slice_get tables.old.items number) (λ t. last_scn t.versions ≤ scn) }
     requires room { IfSome (slice_get tables.old.items number) (λ t. live_count t < most_live) }
-    requires rowids { IfSome (slice_get tables.old.items number) (λ t. t.given < 2 ^ 64 - 1) }
     requires small { IsSmallRow values }
     ensures place { IfSome (slice_get tables.old.items number) (λ t. IfOk result (λ place. place ≡ length t.versions)) }
+    ensures few { OnOk result (IfSome (slice_get tables.old.items number) (λ t. length t.versions < 2 ^ 32 - 1)) }
     ensures ok { OnOk result (tables.new.items ≡ with_change number (inserted scn values) tables.old.items) }
     ensures err { OnErr result (tables.new.items ≡ tables.old.items) }
 {
@@ -261,6 +260,7 @@ fn update_in<L>(
     requires lives { LivesIn tables.old.items number place }
     requires small { IsSmallRow values }
     ensures place { IfSome (slice_get tables.old.items number) (λ t. IfOk result (λ place. place ≡ length t.versions)) }
+    ensures few { OnOk result (IfSome (slice_get tables.old.items number) (λ t. length t.versions < 2 ^ 32 - 1)) }
     ensures ok { OnOk result (tables.new.items ≡ with_change number (updated scn place values) tables.old.items) }
     ensures err { OnErr result (tables.new.items ≡ tables.old.items) }
 {
