@@ -1,8 +1,8 @@
 -- The plan that is chosen for a query, its rows, and the base rows that it reads.
 use Rattle.std.specs.Ordering.{nat_cmp, ordering_then}
-use Rattle.std.specs.Prelude.{Bool, List, Option, [], filter_map, length, map, nat_abs, option_map, sum_by, ℕ}
+use Rattle.std.specs.Prelude.{Bool, List, Option, [], filter_map, length, map, nat_abs, option_and_then, sum_by, false, true, ℕ}
 use Rattle.std.specs.declared.cmp.Ordering.{Ordering}
-use Rattle.wh_base.specs.Lists.{least_by, option_case}
+use Rattle.wh_base.specs.Lists.{least_by, option_case, where_true}
 use Rattle.wh_base.specs.Tables.{Base, table_at}
 use Rattle.wh_base.specs.declared.queries.StarQuery.{StarQuery}
 use Rattle.wh_base.specs.declared.statements.Level.{Level}
@@ -31,6 +31,13 @@ class_rank Partial = 1
 class_rank General = 2
 class_rank JoinBack = 3
 
+-- The classes that are built so far. A view of another class doesn't serve a query yet.
+abbrev pub class_is_built : Class → Bool
+class_is_built Full = true
+class_is_built Partial = false
+class_is_built General = false
+class_is_built JoinBack = false
+
 -- A view that is eligible, with its class, the tables joined back, and the number of its entries.
 pub record Candidate : Type 0 where
   pub view : View
@@ -38,11 +45,11 @@ pub record Candidate : Type 0 where
   pub back : List Back
   pub size : ℕ
 
--- The view as a candidate, where it is eligible.
+-- The view as a candidate, where it is eligible with a class that is built.
 abbrev pub candidate : Catalog → StarQuery → List Token → Level → Bool → View → Option Candidate
 candidate c q text level enabled v =
     let s = standing c q text level enabled v in
-    option_map (λ class. record { view = v; class = class; back = back_of s; size = length (content c v) }) (class_of s)
+    option_and_then (λ class. where_true (class_is_built class) (record { view = v; class = class; back = back_of s; size = length (content c v) })) (class_of s)
 
 -- The first class goes first, and in a class the view with the fewest entries.
 abbrev pub candidate_cmp : Candidate → Candidate → Ordering
