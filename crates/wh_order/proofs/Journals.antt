@@ -1,0 +1,158 @@
+-- What a legal journal is, entry by entry.
+use Rattle.std.proofs.Common.{◌≡◌, ◌∙◌, sym, ap, subst, refl, arith, ℕ, suc, zero, ◌+◌, ◌-◌, ◌<◌, ◌≤◌, ◌==◌, ◌&&◌, ◌||◌, Bool, true, false, true≢false, cond, List, [], ◌∷◌, ◌++◌, length, map, take, slice_get, find, flat_map, Option, Some}
+use Rattle.std.specs.List.{All, AllByRecursion, enumerate_from, list_all}
+use Rattle.std.specs.Prelude.{unwrap_or}
+use Rattle.std.proofs.lemmas.Bool.{and_from, and_parts, eq-eqb, eqb-true}
+use Rattle.std.proofs.lemmas.List.Elements.{All-from_recursion, filter-append}
+use Rattle.wh_base.specs.Lists.{count_from, has_number, option_case}
+use Rattle.wh_base.specs.Parts.{command_entries, parts_of, section_entries}
+use Rattle.wh_base.specs.declared.statements.Command.{Command}
+use Rattle.wh_base.specs.declared.statements.Entry.{Entry}
+use Rattle.wh_base.specs.declared.statements.Script.{Script}
+use Rattle.wh_base.specs.declared.statements.Section.{Section}
+use Rattle.def_journal.specs.Journal.{is_legal, no_command, not_of_session, of_session, same_entries, same_entry, session_numbers}
+use Rattle.wh_order.specs.Laws.{IsNext, Names}
+use Rattle.wh_order.proofs.Listed.{each_append, each_from_all, each_map, each_right, each_weaker}
+
+-- ---- the same entries
+
+entry_is : (a b : Entry) → same_entry a b ≡ true → a ≡ b
+entry_is a b h =
+    let parts = and_parts (a.session == b.session) ((a.command == b.command) && (a.part == b.part)) h in
+    let more = and_parts (a.command == b.command) (a.part == b.part) parts.1 in
+    let session : a.session ≡ b.session = eqb-true a.session b.session parts.0 in
+    let command : a.command ≡ b.command = eqb-true a.command b.command more.0 in
+    let part : a.part ≡ b.part = eqb-true a.part b.part more.1 in
+    ap (λ n. record { session = n; command = a.command; part = a.part }) session
+    ∙ ap (λ n. record { session = b.session; command = n; part = a.part }) command
+    ∙ ap (λ n. record { session = b.session; command = b.command; part = n }) part
+
+pub entries_are : (xs ys : List Entry) → same_entries xs ys ≡ true → xs ≡ ys
+entries_are [] [] h = refl
+entries_are [] (y ∷ ys) h = absurd (true≢false (sym h))
+entries_are (x ∷ xs) [] h = absurd (true≢false (sym h))
+entries_are (x ∷ xs) (y ∷ ys) h =
+    let parts = and_parts (same_entry x y) (same_entries xs ys) h in
+    ap (λ z. z ∷ xs) (entry_is x y parts.0) ∙ ap (λ zs. y ∷ zs) (entries_are xs ys parts.1)
+
+entry_itself : (x : Entry) → same_entry x x ≡ true
+entry_itself x =
+    and_from (x.session == x.session) ((x.command == x.command) && (x.part == x.part)) (eq-eqb x.session x.session refl)
+    (and_from (x.command == x.command) (x.part == x.part) (eq-eqb x.command x.command refl) (eq-eqb x.part x.part refl))
+
+entries_themselves : (xs : List Entry) → same_entries xs xs ≡ true
+entries_themselves [] = refl
+entries_themselves (x ∷ xs) = and_from (same_entry x x) (same_entries xs xs) (entry_itself x) (entries_themselves xs)
+
+pub entries_same : (xs ys : List Entry) → xs ≡ ys → same_entries xs ys ≡ true
+entries_same xs ys is = subst (λ zs. same_entries xs zs ≡ true) is (entries_themselves xs)
+
+-- ---- a section's own parts
+
+pub each_own : (script : Script) (journal : List Entry) → is_legal script journal ≡ true → AllByRecursion (λ s. of_session s.session journal ≡ section_entries s) script.sections
+each_own script journal legal =
+    let owned : Section → Bool = λ s. same_entries (of_session s.session journal) (section_entries s) in
+    let known : Entry → Bool = λ e. has_number (session_numbers script) e.session in
+    let parts = and_parts (same_entries journal (of_session 0 journal ++ not_of_session 0 journal)) (list_all owned script.sections && list_all known journal) legal in
+    let more = and_parts (list_all owned script.sections) (list_all known journal) parts.1 in
+    each_weaker (λ s. owned s ≡ true) (λ s. of_session s.session journal ≡ section_entries s) (λ s h. entries_are (of_session s.session journal) (section_entries s) h) script.sections (each_from_all owned script.sections more.0)
+
+pub own_parts : (script : Script) (journal : List Entry) → is_legal script journal ≡ true → All (λ s. of_session s.session journal ≡ section_entries s) script.sections
+own_parts script journal legal = All-from_recursion (λ s. of_session s.session journal ≡ section_entries s) script.sections (each_own script journal legal)
+
+-- each entry is of a session that the script has
+pub each_known : (script : Script) (journal : List Entry) → is_legal script journal ≡ true → AllByRecursion (λ e. has_number (session_numbers script) e.session ≡ true) journal
+each_known script journal legal =
+    let owned : Section → Bool = λ s. same_entries (of_session s.session journal) (section_entries s) in
+    let known : Entry → Bool = λ e. has_number (session_numbers script) e.session in
+    let parts = and_parts (same_entries journal (of_session 0 journal ++ not_of_session 0 journal)) (list_all owned script.sections && list_all known journal) legal in
+    let more = and_parts (list_all owned script.sections) (list_all known journal) parts.1 in
+    each_from_all known journal more.1
+
+-- ---- the entries of a section's commands
+
+counted_from : (k m : ℕ) → AllByRecursion (λ n. (k ≤ n) × (n < k + m)) (count_from k m)
+counted_from k zero = tt
+counted_from k (suc m) = (((omega arith), (omega arith)), each_weaker (λ n. (suc k ≤ n) × (n < suc k + m)) (λ n. (k ≤ n) × (n < k + suc m)) (λ n h. (omega (arith, h.0), omega (arith, h.1))) (count_from (suc k) m) (counted_from (suc k) m))
+
+names_first : (session n : ℕ) (c : Command) (cs : List Command) → AllByRecursion (Names session n (c ∷ cs)) (command_entries session (n, c))
+names_first session n c cs = each_map (λ k. (1 ≤ k) × (k < 1 + parts_of c)) (Names session n (c ∷ cs)) (λ k. record { session = session; command = n; part = k }) named (count_from 1 (parts_of c)) (counted_from 1 (parts_of c))
+  where
+    named : (k : ℕ) → (1 ≤ k) × (k < 1 + parts_of c) → Names session n (c ∷ cs) (record { session = session; command = n; part = k })
+    named k h =
+        let none : 0 ≡ n - n = omega arith in
+        record {
+          own = refl;
+          command = c;
+          at = ap (slice_get (c ∷ cs)) (sym none);
+          from = omega arith;
+          first = h.0;
+          last = omega (arith, h.1);
+        }
+
+-- a command among the later ones
+names_later : (session n : ℕ) (c : Command) (cs : List Command) (e : Entry) → Names session (n + 1) cs e → Names session n (c ∷ cs) e
+names_later session n c cs e h =
+    let behind : suc (e.command - (n + 1)) ≡ e.command - n = omega (arith, h.from) in
+    record {
+      own = h.own;
+      command = h.command;
+      at = sym (ap (slice_get (c ∷ cs)) behind) ∙ h.at;
+      from = omega (arith, h.from);
+      first = h.first;
+      last = h.last;
+    }
+
+pub each_names : (session n : ℕ) (cs : List Command) → AllByRecursion (Names session n cs) (flat_map (command_entries session) (enumerate_from n cs))
+each_names session n [] = tt
+each_names session n (c ∷ cs) =
+    let later : List Entry = flat_map (command_entries session) (enumerate_from (n + 1) cs) in
+    each_append (Names session n (c ∷ cs)) (command_entries session (n, c)) later (names_first session n c cs) (each_weaker (Names session (n + 1) cs) (Names session n (c ∷ cs)) (names_later session n c cs) later (each_names session (n + 1) cs))
+
+-- ---- the next part
+
+-- the first section of a session that the script has
+section_found : (journal : List Entry) (n : ℕ) (sections : List Section) → has_number (map (λ s. s.session) sections) n ≡ true → AllByRecursion (λ s. of_session s.session journal ≡ section_entries s) sections → (s : Section) × (find (λ t. t.session == n) sections ≡ Some s) × (s.session ≡ n) × (of_session s.session journal ≡ section_entries s)
+section_found journal n [] known own = absurd (true≢false (sym known))
+section_found journal n (s ∷ ss) known own = by (s.session == n) refl (λ more. section_found journal n ss more own.1)
+  where
+    by : (b : Bool) → (s.session == n) ≡ b → (has_number (map (λ u. u.session) ss) n ≡ true → (t : Section) × (find (λ u. u.session == n) ss ≡ Some t) × (t.session ≡ n) × (of_session t.session journal ≡ section_entries t)) → (t : Section) × (find (λ u. u.session == n) (s ∷ ss) ≡ Some t) × (t.session ≡ n) × (of_session t.session journal ≡ section_entries t)
+    by true is later = (s, ap (λ b. cond b (Some s) (find (λ t. t.session == n) ss)) is, eqb-true s.session n is, own.0)
+    by false is later =
+        let more : has_number (map (λ t. t.session) ss) n ≡ true = sym (ap (λ b. b || has_number (map (λ t. t.session) ss) n) is) ∙ known in
+        let rest = later more in
+        (rest.0, ap (λ b. cond b (Some s) (find (λ t. t.session == n) ss)) is ∙ rest.1, rest.2, rest.3)
+
+take_seam : (xs ys : List Entry) → xs ≡ take (length xs) (xs ++ ys)
+take_seam [] ys = refl
+take_seam (x ∷ xs) ys = ap (λ zs. x ∷ zs) (take_seam xs ys)
+
+get_seam : (xs : List Entry) (e : Entry) (ys : List Entry) → slice_get (xs ++ e ∷ ys) (length xs) ≡ Some e
+get_seam [] e ys = refl
+get_seam (x ∷ xs) e ys = get_seam xs e ys
+
+-- the command that the entry names in its section
+abbrev command_in : Entry → Option Section → Command
+command_in e found = option_case found no_command (λ s. unwrap_or (slice_get s.commands (e.command - 1)) no_command)
+
+pub next_part : (script : Script) (front rest : List Entry) (e : Entry) → is_legal script (front ++ e ∷ rest) ≡ true → IsNext script front e
+next_part script front rest e legal =
+    let journal : List Entry = front ++ e ∷ rest in
+    let known : AllByRecursion (λ x. has_number (session_numbers script) x.session ≡ true) (e ∷ rest) = each_right (λ x. has_number (session_numbers script) x.session ≡ true) front (e ∷ rest) (each_known script journal legal) in
+    let there = section_found journal e.session script.sections known.0 (each_own script journal legal) in
+    let section : Section = there.0 in
+    let before : List Entry = of_session e.session front in
+    let behind : List Entry = of_session e.session rest in
+    let same : (e.session == e.session) ≡ true = eq-eqb e.session e.session refl in
+    let here : of_session e.session journal ≡ before ++ e ∷ behind = filter-append (λ x. x.session == e.session) front (e ∷ rest) ∙ ap (λ b. before ++ cond b (e ∷ behind) behind) same in
+    let parts : section_entries section ≡ before ++ e ∷ behind = sym there.3 ∙ ap (λ n. of_session n journal) there.2 ∙ here in
+    let named : AllByRecursion (Names section.session 1 section.commands) (before ++ e ∷ behind) = subst (AllByRecursion (Names section.session 1 section.commands)) parts (each_names section.session 1 section.commands) in
+    let names : Names section.session 1 section.commands e = (each_right (Names section.session 1 section.commands) before (e ∷ behind) named).0 in
+    record {
+      section = section;
+      found = there.1;
+      before = take_seam before (e ∷ behind) ∙ sym (ap (take (length before)) parts);
+      next = ap (λ es. slice_get es (length before)) parts ∙ get_seam before e behind;
+      names = names;
+      command_is = ap (command_in e) there.1 ∙ ap (λ o. unwrap_or o no_command) names.at;
+    }

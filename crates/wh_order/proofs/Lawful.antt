@@ -1,0 +1,28 @@
+-- The laws together.
+use Rattle.std.proofs.Common.{◌≡◌, ◌∙◌, sym, ap, true, List, [], ◌∷◌, ◌++◌, map, flat_map}
+use Rattle.std.proofs.lemmas.List.Folds.{flat_map-map}
+use Rattle.wh_base.specs.declared.statements.Entry.{Entry}
+use Rattle.wh_base.specs.declared.statements.Script.{Script}
+use Rattle.def_journal.specs.Journal.{Told, is_legal}
+use Rattle.def_transcript.specs.Texts.{journal_line, lines_text}
+use Rattle.def_transcript.specs.Transcript.{transcript}
+use Rattle.wh_order.specs.Laws.{Laws, session_told, told_text}
+use Rattle.wh_order.proofs.Journals.{each_own, next_part, own_parts}
+use Rattle.wh_order.proofs.Ordered.{legal}
+use Rattle.wh_order.proofs.Told.{by_sections, told_in_of, told_of}
+
+by_lists : (script : Script) (journal : List Entry) (told : List (List Told)) → is_legal script journal ≡ true → told ≡ map (session_told script journal) script.sections → transcript script journal ≡ flat_map told_text told ++ lines_text (journal_line journal ∷ [])
+by_lists script journal told legal is =
+    by_sections script journal (each_own script journal legal)
+    ∙ ap (λ text. text ++ lines_text (journal_line journal ∷ [])) (sym (ap (flat_map told_text) is ∙ flat_map-map told_text (session_told script journal) script.sections))
+
+pub laws_hold : Laws
+laws_hold = record {
+  legal = legal;
+  own_parts = own_parts;
+  next_part = next_part;
+  told_of = told_of;
+  told_in_of = told_in_of;
+  transcript_by_sessions = λ script journal legal. by_sections script journal (each_own script journal legal);
+  transcript_by_lists = by_lists;
+}

@@ -1,0 +1,6 @@
+pub mod Journals
+pub mod Lawful
+pub mod Listed
+pub mod Ordered
+pub mod Steps
+pub mod Told

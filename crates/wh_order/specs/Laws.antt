@@ -1,0 +1,66 @@
+-- What holds of the legal journals of a script, of its own order, and of the replies under them.
+use Rattle.std.specs.List.{All}
+use Rattle.std.specs.Prelude.{List, None, Option, Some, [], cond, filter, find, flat_map, length, map, slice_get, take, true, ℕ, ◌++◌, ◌-◌, ◌==◌, ◌∷◌, ◌≡◌, ◌≤◌}
+use Rattle.wh_base.specs.Lists.{repeated}
+use Rattle.wh_base.specs.Parts.{parts_of, section_entries}
+use Rattle.wh_base.specs.declared.statements.Command.{Command}
+use Rattle.wh_base.specs.declared.statements.Entry.{Entry}
+use Rattle.wh_base.specs.declared.statements.Event.{Event}
+use Rattle.wh_base.specs.declared.statements.Script.{Script}
+use Rattle.wh_base.specs.declared.statements.Section.{Section}
+use Rattle.def_journal.specs.Journal.{Told, command_of, given_by, is_legal, of_session, order_of, replies_of, reply_to, session_numbers, trace_of}
+use Rattle.def_transcript.specs.Texts.{journal_line, lines_text, reply_lines}
+use Rattle.def_transcript.specs.Transcript.{transcript}
+
+-- the first number that stands there twice
+abbrev pub number_twice : List ℕ → Option ℕ
+number_twice ns = repeated (λ m n. m == n) ns
+
+-- the replies to the commands of a session
+abbrev pub told_in : ℕ → List Told → List Told
+told_in n told = filter (λ t. t.id.session == n) told
+
+-- the lines of these replies, one reply after another
+abbrev pub told_text : List Told → List ℕ
+told_text told = lines_text (flat_map (λ t. reply_lines t.id t.reply) told)
+
+-- the replies to the commands of a session under a journal
+abbrev pub session_told : Script → List Entry → Section → List Told
+session_told script journal s = told_in s.session (replies_of (trace_of script journal))
+
+-- the entry is a part of a command among these, the first of which has the number n
+pub record Names (session n : ℕ) (commands : List Command) (e : Entry) : Type 0 where
+  pub own : e.session ≡ session
+  pub command : Command
+  pub at : slice_get commands (e.command - n) ≡ Some command
+  pub from : n ≤ e.command
+  pub first : 1 ≤ e.part
+  pub last : e.part ≤ parts_of command
+
+-- behind these entries the entry is the next part of its session: as many of the session's parts stand before it as it
+-- has before it, and its command is the one at its number
+pub record IsNext (script : Script) (front : List Entry) (e : Entry) : Type 0 where
+  pub section : Section
+  pub found : find (λ s. s.session == e.session) script.sections ≡ Some section
+  pub before : of_session e.session front ≡ take (length (of_session e.session front)) (section_entries section)
+  pub next : slice_get (section_entries section) (length (of_session e.session front)) ≡ Some e
+  pub names : Names section.session 1 section.commands e
+  pub command_is : command_of script e ≡ names.command
+
+pub record Laws : Type 0 where
+  -- a script's own order is legal, where each section has a number of its own
+  pub legal : (script : Script) → number_twice (session_numbers script) ≡ None → is_legal script (order_of script) ≡ true
+  -- each section's entries stand in its order
+  pub own_parts : (script : Script) (journal : List Entry) → is_legal script journal ≡ true → All (λ s. of_session s.session journal ≡ section_entries s) script.sections
+  -- each entry is the next part of its session
+  pub next_part : (script : Script) (front rest : List Entry) (e : Entry) → is_legal script (front ++ e ∷ rest) ≡ true → IsNext script front e
+  -- an event adds its reply, where it gives one
+  pub told_of : (trace : List Event) (e : Event) → replies_of (trace ++ e ∷ []) ≡ replies_of trace ++ given_by e (reply_to trace e)
+  -- and that only to the replies of its own session
+  pub told_in_of : (n : ℕ) (trace : List Event) (e : Event) → told_in n (replies_of (trace ++ e ∷ [])) ≡ told_in n (replies_of trace) ++ cond (e.entry.session == n) (given_by e (reply_to trace e)) []
+  -- the transcript is the text of each section's replies, in the order in which they were given, and the journal's line
+  pub transcript_by_sessions : (script : Script) (journal : List Entry) → is_legal script journal ≡ true
+      → transcript script journal ≡ flat_map (λ s. told_text (session_told script journal s)) script.sections ++ lines_text (journal_line journal ∷ [])
+  -- the same where the replies are held section by section
+  pub transcript_by_lists : (script : Script) (journal : List Entry) (told : List (List Told)) → is_legal script journal ≡ true → told ≡ map (session_told script journal) script.sections
+      → transcript script journal ≡ flat_map told_text told ++ lines_text (journal_line journal ∷ [])

@@ -1,0 +1,11 @@
+//! What a legal journal means for a script.
+ghost use Rattle.wh_order.specs.Laws.{Laws};
+
+/// The laws of the order of a script's parts, in the words of `specs/Laws.antt`.
+///
+/// It does nothing. Its contract says that a script's own order is legal where no two sections have one number; and that
+/// in each legal journal an entry is the next part of its session, an event adds its reply to those of its session, and
+/// the transcript is the text of the replies session by session.
+pub fn laws()
+    ensures { Laws }
+{}
