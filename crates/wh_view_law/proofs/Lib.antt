@@ -1,0 +1,14 @@
+mod Tested
+mod Sizes
+mod Stepping
+mod Plain
+mod Texts
+mod Chosen
+mod Changes
+mod Marks
+mod Blocks
+mod Cuts
+mod Outside
+mod Tuples
+mod Misses
+mod Serving
