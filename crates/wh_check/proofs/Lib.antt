@@ -1,0 +1,12 @@
+mod Places
+mod Names
+mod Literals
+mod Sizes
+mod Allowing
+mod Sourcing
+mod Bases
+mod Growing
+mod Counted
+mod Running
+mod Accepting
+mod Filled

@@ -1,0 +1,56 @@
+-- What a block of INSERTs makes of tables, or where it stops.
+use Rattle.std.specs.List.{list_all}
+use Rattle.std.specs.Prelude.{◌≡◌, ◌+◌, Bool, Err, List, None, Ok, Result, Some, [], false, length, nat_le, true, ℕ}
+use Rattle.wh_base.specs.declared.replies.Refused.{Refused}
+use Rattle.wh_base.specs.declared.statements.ChangeStatement.TheVariants.{Insert}
+use Rattle.wh_base.specs.declared.statements.Statement.{Statement}
+use Rattle.wh_base.specs.declared.statements.Statement.TheVariants as about
+use Rattle.wh_base.specs.declared.tables.Kind.{Kind}
+use Rattle.wh_base.specs.declared.tables.Kind.TheVariants.{Number, Text}
+use Rattle.wh_base.specs.declared.tables.TableDef.{TableDef}
+use Rattle.def_effect.specs.Block.{Progress, Stopped, effect, new_versions}
+use Rattle.wh_check.specs.declared.block.Checked.{Checked}
+use Rattle.wh_image.specs.Laws.{Leaves}
+use Rattle.wh_table.specs.Stored.{Stored, base_seen}
+
+-- ---- what a block and its tables have to be
+
+-- no keys, no foreign keys and no partitions
+pub record IsPlainDef (d : TableDef) : Type 0 where
+  pub keys : d.keys ≡ []
+  pub foreign : d.foreign ≡ []
+  pub whole : d.part_key ≡ None
+
+abbrev pub is_insert : Statement → Bool
+is_insert (about.Change (Insert s)) = true
+is_insert s = false
+
+-- a number column has at most 15 digits
+abbrev pub kind_is_sized : Kind → Bool
+kind_is_sized (Number p) = nat_le p 15
+kind_is_sized (Text n) = true
+
+abbrev pub is_sized_def : TableDef → Bool
+is_sized_def d = list_all (λ c. kind_is_sized c.kind) d.columns
+
+-- ---- what comes of it
+
+-- The block over these tables goes through: it leaves those tables at the next SCN, made so many changes, leaves so many kept row versions and scanned so many rows.
+pub record Makes (scn : ℕ) (tables : List Stored) (kept : ℕ) (statements : List Statement) (after_scn : ℕ) (after : List Stored) (rows versions read : ℕ) : Type 0 where
+  pub progress : Progress
+  pub is : effect (base_seen scn tables) kept statements ≡ Ok progress
+  pub next : after_scn ≡ scn + 1
+  pub leaves : Leaves scn tables after progress
+  pub rows_are : rows ≡ length progress.changes
+  pub versions_are : versions ≡ kept + new_versions progress.base progress.changes
+  pub read_is : read ≡ progress.scanned
+
+-- The block over these tables stops, with this refusal at the number of its statement.
+pub record Stops (scn : ℕ) (tables : List Stored) (kept : ℕ) (statements : List Statement) (refused : Refused) : Type 0 where
+  pub stopped : Stopped
+  pub is : effect (base_seen scn tables) kept statements ≡ Err stopped
+  pub refused_is : refused ≡ record { code = stopped.code; at = Some stopped.at; read = stopped.scanned }
+
+abbrev pub IsOutcome : {L : Type 0} → ℕ → List Stored → ℕ → List Statement → Result (Checked L) Refused → Type 0
+IsOutcome scn tables kept statements (Ok c) = Makes scn tables kept statements c.tables.scn c.tables.tables.items c.rows c.versions c.read
+IsOutcome scn tables kept statements (Err r) = Stops scn tables kept statements r

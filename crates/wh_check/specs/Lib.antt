@@ -1,0 +1,4 @@
+pub mod Asking
+pub mod Effects
+pub mod Making
+pub mod Rows
