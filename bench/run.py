@@ -30,6 +30,7 @@ class Case:
     rows: int
     statements: Callable[[int], Iterator[str]]
     refused: bool = False  # all but the first statement are refused, by both programs
+    theirs: Callable[[int], Iterator[str]] | None = None  # SQLite's statements, where they aren't the same
 
 
 def sales(first: int, count: int) -> str:
@@ -66,6 +67,41 @@ def refused_inserts(rows: int) -> Iterator[str]:
         yield f"INSERT INTO NOWHERE VALUES {', '.join(each)}"
 
 
+REFRESHES = 20
+ANSWERS = 50  # after each refresh
+SUMMARY = "SELECT G, SUM(A), COUNT(*) FROM SALES GROUP BY G"
+
+
+def filled(rows: int) -> Iterator[str]:
+    """One table, filled by INSERT statements of 1,000 rows each."""
+    yield "CREATE TABLE SALES (G VARCHAR2(10), A NUMBER)"
+    for first in range(0, rows, 1000):
+        yield f"INSERT INTO SALES VALUES {sales(first, min(1000, rows - first))}"
+
+
+def refreshed(rows: int) -> Iterator[str]:
+    """A view of 1,000 groups, refreshed completely and asked again and again."""
+    yield from filled(rows)
+    yield f"CREATE MATERIALIZED VIEW V ENABLE QUERY REWRITE AS {SUMMARY}"
+    for _ in range(REFRESHES):
+        yield "EXECUTE DBMS_MVIEW.REFRESH('V', 'C')"
+        for _ in range(ANSWERS):
+            yield SUMMARY
+
+
+def summarized(rows: int) -> Iterator[str]:
+    """The same with a summary table that is emptied and filled again, each time as one commit."""
+    yield from filled(rows)
+    yield "CREATE TABLE V (G VARCHAR2(10), S NUMBER, N NUMBER)"
+    for _ in range(REFRESHES):
+        yield "BEGIN"
+        yield "DELETE FROM V"
+        yield f"INSERT INTO V {SUMMARY}"
+        yield "COMMIT"
+        for _ in range(ANSWERS):
+            yield "SELECT G, S, N FROM V ORDER BY G"
+
+
 # Most cases stand here twice, with ten times more rows, so that it is seen how the time grows.
 CASES = [
     Case("totals", 20_000, totals),
@@ -75,6 +111,8 @@ CASES = [
     Case("read", READ_ROWS, refused_inserts, refused=True),
     Case("read", 4 * READ_ROWS, refused_inserts, refused=True),
     Case("read", 8 * READ_ROWS, refused_inserts, refused=True),
+    Case("refresh", 10_000, refreshed, theirs=summarized),
+    Case("refresh", 100_000, refreshed, theirs=summarized),
 ]
 
 LOAD_LINES = 262_144
@@ -98,9 +136,10 @@ def sqlite_script(statements: Iterator[str]) -> Iterator[str]:
 
 def write_scripts(case: Case, ours: Path, theirs: Path) -> int:
     """Writes the case's script for each program, and returns the bytes of mviewdb's."""
-    for path, form in ((ours, mviewdb_script), (theirs, sqlite_script)):
+    other = case.theirs or case.statements
+    for path, form, statements in ((ours, mviewdb_script, case.statements), (theirs, sqlite_script, other)):
         with open(path, "w", encoding="utf-8") as file:
-            file.writelines(form(case.statements(case.rows)))
+            file.writelines(form(statements(case.rows)))
     return ours.stat().st_size
 
 

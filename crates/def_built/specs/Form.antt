@@ -6,7 +6,6 @@ use Rattle.def_grammar.specs.Script.{Draft, Outcome, script_where, sections_of}
 use Rattle.std.specs.List.{list_all}
 use Rattle.std.specs.Prelude.{◌&&◌, ◌==◌, ◌||◌, ◌∷◌, Bool, List, [], is_none, true, ℕ}
 use Rattle.wh_base.specs.Lists.{is_empty}
-use Rattle.wh_base.specs.declared.statements.Command.{Command}
 use Rattle.wh_base.specs.declared.statements.Script.{Script}
 use Rattle.wh_base.specs.declared.statements.Section.{Section}
 
@@ -34,11 +33,3 @@ built_script bytes tail = script_where draft_is_built bytes tail
 
 abbrev pub script_is_built : Script → Bool
 script_is_built s = sections_are_built s.sections && (is_empty s.order || is_built forms.Order)
-
--- ---- the script of one setup
-
-abbrev pub no_section : Script
-no_section = record { sections = []; order = [] }
-
-abbrev pub setup_of : List Command → Script
-setup_of cs = record { sections = record { session = 0; commands = cs } ∷ []; order = [] }

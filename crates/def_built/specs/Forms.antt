@@ -13,8 +13,8 @@ use Rattle.wh_base.specs.declared.statements.TableStatement.TheVariants as table
 
 -- one truth value for each form
 abbrev pub is_built : Form → Bool
-is_built forms.Session = false
-is_built forms.Order = false
+is_built forms.Session = true
+is_built forms.Order = true
 is_built forms.Block = false
 is_built forms.Load = false
 is_built forms.Select = true
@@ -24,11 +24,11 @@ is_built forms.Delete = false
 is_built forms.CreateTable = true
 is_built forms.AlterTable = false
 is_built forms.Log = false
-is_built forms.View = false
+is_built forms.View = true
 is_built forms.Dimension = false
-is_built forms.Refresh = false
+is_built forms.Refresh = true
 is_built forms.Purge = false
-is_built forms.Show = false
+is_built forms.Show = true
 is_built forms.ExplainQuery = false
 is_built forms.Setting = false
 

@@ -41,5 +41,15 @@ pub enum Form {
 pub fn is_built(form: Form) -> bool
     ensures { result ≡ is_built form }
 {
-    matches!(form, Form::Select | Form::Insert | Form::CreateTable)
+    matches!(
+        form,
+        Form::Session
+            | Form::Order
+            | Form::Select
+            | Form::Insert
+            | Form::CreateTable
+            | Form::View
+            | Form::Refresh
+            | Form::Show
+    )
 }

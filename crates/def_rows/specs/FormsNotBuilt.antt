@@ -1,11 +1,11 @@
--- Scripts with forms that the program doesn't run yet: NotBuilt on the line of the first one, behind every fault that comes
--- before it or stands on its place.
-use Rattle.std.specs.Prelude.{Err, List, Ok, Result, [], codes, false, refl, ◌∷◌, ◌≡◌, ℕ}
+-- What the program runs so far of a script, and what it doesn't run yet: NotBuilt on the line of the first such form, behind
+-- every fault that comes before it or stands on its place.
+use Rattle.std.specs.Prelude.{Err, List, Ok, Result, [], codes, false, map, refl, replicate, ◌∷◌, ◌≡◌, ℕ}
 use Rattle.def_built.specs.Form.{built_script}
 use Rattle.def_grammar.specs.Script.{Outcome}
 use Rattle.def_rows.specs.Lines.{chars, digits, front_of, is_utf8, lines_text, next_record, strip_bom, tokens_of, utf8_valid_len}
 use Rattle.wh_base.specs.declared.statements.BadScript.{BadScript}
-use Rattle.wh_base.specs.declared.statements.ScriptKind.TheVariants.{NotBuilt, OpenStatement, Syntax}
+use Rattle.wh_base.specs.declared.statements.ScriptKind.TheVariants.{NoEnd, NotBuilt, OpenStatement, OrderTooLong, Syntax}
 
 -- the place behind the end, or the fault
 abbrev place_or_fault : Outcome → Result ℕ BadScript
@@ -15,13 +15,96 @@ place_or_fault (Err e) = Err e
 abbrev built : List ℕ → Result ℕ BadScript
 built bytes = place_or_fault (built_script bytes false)
 
+-- of each line behind `@setup`, without an end
+abbrev built_alone : List (List ℕ) → List (Result ℕ BadScript)
+built_alone lines = map (λ line. built (lines_text (codes "@setup" ∷ line ∷ []))) lines
+
 pub setup_alone : built (lines_text (codes "@setup" ∷ codes "@end" ∷ [])) ≡ Ok 12
 unfolding built_script digits utf8_valid_len is_utf8 chars lib.Utf8.encode tokens_of front_of next_record strip_bom
 setup_alone = refl
 
-pub session : built (lines_text (codes "@setup" ∷ codes "@session 1" ∷ codes "@end" ∷ [])) ≡ Err (record { line = 2; kind = NotBuilt })
+pub session : built (lines_text (codes "@setup" ∷ codes "@session 1" ∷ codes "@end" ∷ [])) ≡ Ok 23
 unfolding built_script digits utf8_valid_len is_utf8 chars lib.Utf8.encode tokens_of front_of next_record strip_bom
 session = refl
+
+-- several tables, rows by a list of columns, a star query, a view with its complete refresh, and an order
+pub all_forms :
+    built (lines_text (
+    codes "@setup"
+    ∷ codes "CREATE TABLE S (P NUMBER NOT NULL, A NUMBER);"
+    ∷ codes "CREATE TABLE D (P NUMBER, G VARCHAR2(9));"
+    ∷ codes "INSERT INTO S (A, P) VALUES (1, 7);"
+    ∷ codes "CREATE MATERIALIZED VIEW V REFRESH COMPLETE AS SELECT P, SUM(A) FROM S GROUP BY P;"
+    ∷ codes "@session 3"
+    ∷ codes "SELECT D.G, AVG(S.A) AS M FROM S JOIN D ON S.P = D.P WHERE S.A > 0 GROUP BY D.G HAVING COUNT(*) > 1 ORDER BY M DESC;"
+    ∷ codes "@session 5"
+    ∷ codes "EXEC DBMS_MVIEW.REFRESH('V', 'c');"
+    ∷ codes "SHOW VIEW V;"
+    ∷ codes "@order 5 3 5 5"
+    ∷ codes "@end"
+    ∷ []))
+    ≡ Ok 421
+unfolding built_script digits utf8_valid_len is_utf8 chars lib.Utf8.encode tokens_of front_of next_record strip_bom
+all_forms = refl
+
+-- a line that is built has no fault before the end that isn't there
+pub parts_built :
+    built_alone (
+    codes "CREATE TABLE T (A NUMBER(99) NOT NULL, A VARCHAR2(0));"
+    ∷ codes "SELECT A FROM T;"
+    ∷ codes "INSERT INTO T VALUES (1);"
+    ∷ codes "CREATE MATERIALIZED VIEW V REFRESH FORCE AS SELECT A FROM T;"
+    ∷ codes "ALTER MATERIALIZED VIEW V ENABLE QUERY REWRITE;"
+    ∷ codes "DROP MATERIALIZED VIEW V;"
+    ∷ codes "UNREGISTER MATERIALIZED VIEW V;"
+    ∷ [])
+    ≡ replicate 7 (Err (record { line = 2; kind = NoEnd }))
+unfolding built_script digits utf8_valid_len is_utf8 chars lib.Utf8.encode tokens_of front_of next_record strip_bom
+parts_built = refl
+
+-- parts of forms of which other parts are built
+pub parts_not_built :
+    built_alone (
+    codes "CREATE TABLE T (A NUMBER PRIMARY KEY);"
+    ∷ codes "CREATE TABLE T (A NUMBER, UNIQUE (A));"
+    ∷ codes "CREATE TABLE T (A NUMBER) PARTITION BY RANGE (A) (PARTITION P VALUES LESS THAN (9));"
+    ∷ codes "SELECT A FROM T AS OF SCN 1;"
+    ∷ codes "CREATE MATERIALIZED VIEW V REFRESH FAST AS SELECT A FROM T;"
+    ∷ codes "CREATE MATERIALIZED VIEW V REFRESH COMPLETE ON COMMIT AS SELECT A FROM T;"
+    ∷ codes "EXEC DBMS_MVIEW.REFRESH('V');"
+    ∷ codes "EXEC DBMS_MVIEW.REFRESH('V', '?');"
+    ∷ codes "SHOW LOG T;"
+    ∷ [])
+    ≡ replicate 9 (Err (record { line = 2; kind = NotBuilt }))
+unfolding built_script digits utf8_valid_len is_utf8 chars lib.Utf8.encode tokens_of front_of next_record strip_bom
+parts_not_built = refl
+
+-- forms of which nothing is built
+pub forms_not_built :
+    built_alone (
+    codes "UPDATE T SET A = 1;"
+    ∷ codes "DELETE FROM T;"
+    ∷ codes "ALTER TABLE T DROP PARTITION P;"
+    ∷ codes "DROP MATERIALIZED VIEW LOG ON T;"
+    ∷ codes "DROP DIMENSION D;"
+    ∷ codes "PURGE UNDO TO SCN 1;"
+    ∷ codes "EXPLAIN REWRITE SELECT A FROM T;"
+    ∷ codes "SET TRANSACTION READ ONLY;"
+    ∷ [])
+    ≡ replicate 8 (Err (record { line = 2; kind = NotBuilt }))
+unfolding built_script digits utf8_valid_len is_utf8 chars lib.Utf8.encode tokens_of front_of next_record strip_bom
+forms_not_built = refl
+
+-- a refresh has two parts, and all else one
+pub order_too_long :
+    built (lines_text (
+    codes "@session 1"
+    ∷ codes "EXEC DBMS_MVIEW.REFRESH('V', 'C');"
+    ∷ codes "@order 1 1 1"
+    ∷ []))
+    ≡ Err (record { line = 3; kind = OrderTooLong })
+unfolding built_script digits utf8_valid_len is_utf8 chars lib.Utf8.encode tokens_of front_of next_record strip_bom
+order_too_long = refl
 
 -- BEGIN is told, and not what stands in its block
 pub block :
@@ -40,7 +123,7 @@ pub before_a_fault :
     built (lines_text (
     codes "@setup"
     ∷ codes "CREATE TABLE T (A NUMBER);"
-    ∷ codes "DROP MATERIALIZED VIEW V;"
+    ∷ codes "DROP DIMENSION D;"
     ∷ codes "SELECT ?;"
     ∷ codes "SELECT FROM;"
     ∷ []))
@@ -53,7 +136,7 @@ pub behind_a_fault :
     codes "@setup"
     ∷ codes "CREATE TABLE T (A NUMBER);"
     ∷ codes "SELECT FROM;"
-    ∷ codes "DROP MATERIALIZED VIEW V;"
+    ∷ codes "DROP DIMENSION D;"
     ∷ []))
     ≡ Err (record { line = 3; kind = Syntax })
 unfolding built_script digits utf8_valid_len is_utf8 chars lib.Utf8.encode tokens_of front_of next_record strip_bom
@@ -61,6 +144,6 @@ behind_a_fault = refl
 
 -- a statement that isn't closed isn't asked for its form
 pub open_statement :
-    built (lines_text (codes "@setup" ∷ codes "DROP MATERIALIZED VIEW V" ∷ codes "@session 1" ∷ [])) ≡ Err (record { line = 2; kind = OpenStatement })
+    built (lines_text (codes "@setup" ∷ codes "DROP DIMENSION D" ∷ codes "@session 1" ∷ [])) ≡ Err (record { line = 2; kind = OpenStatement })
 unfolding built_script digits utf8_valid_len is_utf8 chars lib.Utf8.encode tokens_of front_of next_record strip_bom
 open_statement = refl

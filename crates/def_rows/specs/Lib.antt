@@ -4,10 +4,8 @@ pub mod AsOf
 pub mod AverageAndOrder
 pub mod Blocks
 pub mod Check
-pub mod ChoiceOfPlan
 pub mod CompleteRefresh
 pub mod DeferredView
-pub mod DimensionRollup
 pub mod DuplicateKey
 pub mod EmptyScript
 pub mod EmptyText
@@ -20,7 +18,6 @@ pub mod FastRefreshStar
 pub mod FirstRefusals
 pub mod ForeignKeys
 pub mod FormsNotBuilt
-pub mod FourSessions
 pub mod Generated
 pub mod GroupByOneTable
 pub mod HeldRefresh

@@ -1,8 +1,8 @@
 use Rattle.std.specs.Prelude.{Ok, [], codes, refl, ◌∷◌, ◌≡◌}
 use Rattle.def_rows.specs.Lines.{Ordering, chars, digits, front_of, is_utf8, lines_text, output, tokens_of, utf8_valid_len}
 
--- The view's own text in other letters and spaces is a full text match; other items over the same
--- FROM and GROUP BY are a partial one. AVG is made of SUM and COUNT.
+-- The view's own text in other letters and spaces is a full text match. Other items over the same FROM and GROUP BY are a partial one,
+-- a class that isn't built yet.
 pub full_and_partial_text_match :
     output Ordering (lines_text (
     codes "@setup"
@@ -20,7 +20,7 @@ pub full_and_partial_text_match :
     ∷ codes "0.4 ANSWER SCN 2 PLAN FULL V@2 READ 0 ROWS 2"
     ∷ codes "P|15|2|2"
     ∷ codes "Q||0|1"
-    ∷ codes "0.5 ANSWER SCN 2 PLAN PARTIAL V@2 READ 0 ROWS 2"
+    ∷ codes "0.5 ANSWER SCN 2 PLAN BASE READ 3 ROWS 2"
     ∷ codes "15/2|P"
     ∷ codes "|Q"
     ∷ codes "journal 0.1.1 0.2.1 0.3.1 0.4.1 0.5.1"

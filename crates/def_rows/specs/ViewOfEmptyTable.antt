@@ -13,7 +13,7 @@ pub view_of_empty_table :
     ≡ Ok (lines_text (
     codes "0.1 DONE SCN 1 READ 0"
     ∷ codes "0.2 DONE SCN 1 READ 0"
-    ∷ codes "0.3 ANSWER SCN 1 PLAN GENERAL V@1 READ 0 ROWS 1"
+    ∷ codes "0.3 ANSWER SCN 1 PLAN BASE READ 0 ROWS 1"
     ∷ codes "|0"
     ∷ codes "journal 0.1.1 0.2.1 0.3.1"
     ∷ []))

@@ -1,1 +1,4 @@
-pub mod Plain
+pub mod Kept
+pub mod Asked
+pub mod Calls
+pub mod Put

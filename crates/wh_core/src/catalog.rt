@@ -1,104 +1,83 @@
-ghost use Rattle.std.specs.Prelude.{◌≡◌, ◌≤◌, ◌+◌, ◌^◌, [], ◌∷◌, ◌++◌, Some, IfOk, OnOk, OnErr, IsTrue, is_some, length};
-ghost use Rattle.def_built.specs.Commands.{block_insert, commands_are_built, most_rows, query_is_built};
-ghost use Rattle.def_resolve.specs.Resolve.{resolve};
+ghost use Rattle.std.specs.Prelude.{◌≡◌, ◌≤◌, ◌+◌, ◌^◌, [], ◌∷◌, ◌++◌, Some, IfOk, OnOk, OnErr, IsTrue, true};
+ghost use Rattle.def_built.specs.Commands.{command_is_built, commands_are_built};
 ghost use Rattle.def_output.specs.Reads.{read_of};
 ghost use Rattle.def_journal.specs.Journal.{commands_of, event_of, reply_to};
-ghost use Rattle.wh_core.specs.Plain.{HasSmallKinds, given_rows, insert_command, insert_refusal, is_run, rows_left, selected_reply};
+ghost use Rattle.wh_answer.specs.Answered.{most_reads};
+ghost use Rattle.wh_core.specs.Calls.{changes_catalog};
+ghost use Rattle.wh_core.specs.Put.{refusal_after};
+ghost use Rattle.wh_view_law.specs.Read.{IsRead};
 
-use crate::create::table_of;
-use crate::insert::{append_rows, insert_refusal};
-use crate::notes::{Noted, note_of};
-use crate::select::query_of;
+use crate::notes::Noted;
 use std::alloc::{AllocError, Global};
 use std::marker::Model;
-use wh_base::queries::RawQuery;
 use wh_base::reads::Reads;
-use wh_base::replies::{Answered, Committed, Done, PlanLine, Refusal, Refused, Reply};
-use wh_base::seq::Seq;
-use wh_base::statements::{
-    Asked, Block, ChangeStatement, Command, Id, InsertRows, NewTable, Statement, TableStatement,
-};
-use wh_base::tables::TableDef;
-use wh_eval::{RowList, evaluate};
+use wh_base::replies::{Done, Refusal, Refused, Reply};
+use wh_base::statements::{Command, Id, Statement, TableStatement, ViewStatement};
+use wh_image::Image;
 
-/// A table with its rows.
-#[derive(Drop)]
-pub struct Stored<L> {
-    def: TableDef,
-    rows: RowList<L>,
-}
-
-/// The catalog, which contracts see as its trace: the entries of its journal with their commands. Its SCN and its table
-/// are what the definitions make of that trace. Of the commands nothing else is kept.
+/// The catalog, which contracts see as its trace: the entries of its journal with their commands. What it keeps is the
+/// image that the definitions make of that trace, how many row versions it has, and room for the install of each refresh
+/// that has begun.
 #[derive(Drop)]
 pub struct Core<L> {
-    trace: Seq<Noted>,
-    scn: u64,
-    table: Option<Stored<L>>,
+    pub(crate) notes: Vec<Noted>,
+    pub(crate) image: Image<L>,
+    // how many row versions are kept
+    pub(crate) kept: u64,
+    // for how many installs of refreshes there is room
+    pub(crate) begun: usize,
 }
 
 impl<L> Model for Core<L> {
-    ghost use Rattle.std.specs.Prelude.{List, option_map};
+    ghost use Rattle.std.specs.Prelude.{List, ◌-◌, vec_capacity, vec_len};
     ghost use Rattle.std.specs.Coded.{coded_list};
     ghost use Rattle.wh_base.specs.declared.statements.Event.{Event};
     ghost use Rattle.wh_base.specs.contracts.statements.Event.{the_row};
-    ghost use Rattle.wh_core.specs.Plain.{IsCore};
+    ghost use Rattle.wh_core.specs.Kept.{IsCore};
 
     ghost Value = { List Event };
 
     ghost coded = { coded_list the_row.coded };
 
-    ghost view = { λ c. c.trace };
+    ghost view = { λ c. c.notes.items };
 
-    ghost invariant = { λ c. IsCore c.scn (option_map (λ t. (t.def, t.rows)) c.table) c.trace };
+    ghost invariant = { λ c. IsCore c.notes.items c.image.tables.scn c.image.tables.tables.items c.image.views c.kept c.begun (vec_capacity c.notes - vec_len c.notes) };
 }
 
 impl<L> Core<L> {
-    /// The empty catalog, with an empty journal. Takes no memory.
-    #[tactic(auto, using(crate::proofs::Core::beginning))]
-    pub fn new(alloc: Global) -> Core<L>
-        ensures { result ≡ [] }
+    /// The empty catalog, with an empty journal. An error says that memory ran out.
+    #[tactic(auto, using(crate::proofs::Beginning::beginning))]
+    pub fn new(alloc: Global) -> Result<Core<L>, AllocError>
+        ensures { IfOk result (λ c. c ≡ []) }
     {
-        Core {
-            trace: Seq::new(alloc),
-            scn: 0,
-            table: None,
-        }
+        Ok(Core {
+            notes: Vec::new(alloc),
+            image: Image::new(alloc)?,
+            kept: 0,
+            begun: 0,
+        })
     }
 
-    /// The step of the next command of a session: it enters the journal, takes effect and is answered. A CREATE TABLE
-    /// answers `DONE`, an INSERT `COMMITTED` or its first refusal (MV-02 for another table; then row by row MV-04 for a
-    /// wrong number of values or a value of another kind; then MV-04 for a size), a SELECT its rows or its first refusal
-    /// (MV-02, MV-03, MV-04). Only a SELECT reads base rows, each once. An error says that memory ran out; then the
-    /// catalog is as it was, and some rows may have been read. At most `most_rows` are read in any case.
-    ///
-    /// The commands so far and this one must be of those that are built so far.
-    #[tactic(auto, using(crate::proofs::Core::next))]
-    pub fn run(
-        &mut self,
-        alloc: Global,
-        id: Id,
-        command: &Command,
-        reads: &mut Reads<L>,
-    ) -> Result<Reply, AllocError>
-        requires next { IsTrue (commands_are_built (commands_of self.old ++ command.now ∷ [])) }
-        requires room { reads.old ≤ 2 ^ 63 }
-        ensures reply { IfOk result (λ r. reply_to self.old (event_of id command.now) ≡ Some r) }
-        ensures raised { IfOk result (λ r. reads.new ≡ reads.old + read_of r) }
-        ensures least { reads.old ≤ reads.new }
-        ensures most { reads.new ≤ reads.old + most_rows }
-        ensures ok { OnOk result (self.new ≡ self.old ++ event_of id command.now ∷ []) }
-        ensures err { OnErr result (self.new ≡ self.old) }
+    /// The journal so far, each entry with its command for contracts. Takes no memory.
+    pub fn notes(&self) -> &[Noted]
+        ensures { result.now ≡ self.now }
     {
-        match command {
-            Command::Block(block) => self.insert(alloc, id, command, only_insert(block)),
-            Command::Other(statement) => self.other(alloc, id, command, statement, reads),
-        }
+        self.notes.as_slice()
     }
 
-    /// The step of a statement by itself.
-    #[tactic(auto, using(crate::proofs::Core::next))]
-    fn other(
+    /// Each command of the journal is of a form that is built. It does nothing.
+    pub fn built(&self)
+        ensures { commands_are_built (commands_of self.now) ≡ true }
+    {
+        let _kept = self.kept;
+    }
+
+    /// The step of a statement on a table or a view (the Data Warehousing Guide's chapters on materialized views; CREATE TABLE is the SQL
+    /// language's): it enters the journal and takes effect, `DONE` with the SCN after it and, for a view that is built at once, the base
+    /// rows read; or it is refused, and then nothing but the journal changes: MV-01 for a name that is taken, MV-16 for too many objects,
+    /// MV-02 for a view that isn't there, and what refuses the table's definition or the view's query. An error says that memory ran out;
+    /// then the catalog is as it was, and some rows may have been read. At most `most_reads` rows are read in any case.
+    pub fn ddl(
         &mut self,
         alloc: Global,
         id: Id,
@@ -106,195 +85,53 @@ impl<L> Core<L> {
         statement: &Statement,
         reads: &mut Reads<L>,
     ) -> Result<Reply, AllocError>
-        requires next { IsTrue (commands_are_built (commands_of self.old ++ command.now ∷ [])) }
         requires command { command.now ≡ Command.Other statement.now }
-        requires runs { IsTrue (is_run statement.now) }
+        requires changes { IsTrue (changes_catalog statement.now) }
+        requires built { IsTrue (command_is_built command.now) }
+        requires read { IsRead command.now }
         requires room { reads.old ≤ 2 ^ 63 }
         ensures reply { IfOk result (λ r. reply_to self.old (event_of id command.now) ≡ Some r) }
         ensures raised { IfOk result (λ r. reads.new ≡ reads.old + read_of r) }
         ensures least { reads.old ≤ reads.new }
-        ensures most { reads.new ≤ reads.old + most_rows }
+        ensures most { reads.new ≤ reads.old + most_reads }
         ensures ok { OnOk result (self.new ≡ self.old ++ event_of id command.now ∷ []) }
         ensures err { OnErr result (self.new ≡ self.old) }
     {
         match statement {
             Statement::Table(TableStatement::CreateTable(table)) => {
-                self.create(alloc, id, command, table)
+                self.create_table(alloc, id, command, table)
             }
-            Statement::Select(asked) => self.select(alloc, id, command, asked, reads),
+            Statement::View(ViewStatement::CreateView(view)) => {
+                self.create_view(alloc, id, command, view, reads)
+            }
+            Statement::View(ViewStatement::AlterView(view)) => {
+                self.switch_view(alloc, id, command, view)
+            }
+            Statement::View(ViewStatement::DropView(name)) => self.drop_view(
+                alloc, id, command, name,
+            ),
+            Statement::View(ViewStatement::Unregister(name)) => {
+                self.unregister_view(alloc, id, command, name)
+            }
             _ => unreachable!(),
         }
     }
-
-    /// The step of the CREATE TABLE that a trace begins with.
-    fn create(
-        &mut self,
-        alloc: Global,
-        id: Id,
-        command: &Command,
-        table: &NewTable,
-    ) -> Result<Reply, AllocError>
-        requires next { IsTrue (commands_are_built (commands_of self.old ++ command.now ∷ [])) }
-        requires command { command.now ≡ Command.Other (Statement.Table (TableStatement.CreateTable table.now)) }
-        ensures reply { IfOk result (λ r. reply_to self.old (event_of id command.now) ≡ Some r) }
-        ensures unread { IfOk result (λ r. read_of r ≡ 0) }
-        ensures ok { OnOk result (self.new ≡ self.old ++ event_of id command.now ∷ []) }
-        ensures err { OnErr result (self.new ≡ self.old) }
-    {
-        let def = table_of(alloc, table)?;
-        self.trace.push(note_of(id, command))?;
-        self.scn += 1;
-        self.table = Some(Stored {
-            def,
-            rows: RowList::new(alloc),
-        });
-        Ok(Reply::Catalog(Done {
-            scn: self.scn,
-            read: 0,
-        }))
-    }
-
-    /// The step of an INSERT.
-    fn insert(
-        &mut self,
-        alloc: Global,
-        id: Id,
-        command: &Command,
-        statement: &InsertRows,
-    ) -> Result<Reply, AllocError>
-        requires next { IsTrue (commands_are_built (commands_of self.old ++ command.now ∷ [])) }
-        requires command { command.now ≡ insert_command statement.now }
-        ensures reply { IfOk result (λ r. reply_to self.old (event_of id command.now) ≡ Some r) }
-        ensures unread { IfOk result (λ r. read_of r ≡ 0) }
-        ensures ok { OnOk result (self.new ≡ self.old ++ event_of id command.now ∷ []) }
-        ensures err { OnErr result (self.new ≡ self.old) }
-    {
-        let had = self.trace.len();
-        self.trace.push(note_of(id, command))?;
-        let Some(mut table) = self.table.take() else {
-            unreachable!();
-        };
-        let outcome = insert_into(alloc, &mut table, statement);
-        self.table = Some(table);
-        match outcome {
-            Ok(None) => {
-                self.scn += 1;
-                Ok(committed(alloc, self.scn, statement))
-            }
-            Ok(Some(code)) => Ok(Reply::Refuse(Refused {
-                code,
-                at: Some(1),
-                read: 0,
-            })),
-            Err(error) => {
-                self.trace.truncate(had);
-                Err(error)
-            }
-        }
-    }
-
-    /// The step of a SELECT.
-    fn select(
-        &mut self,
-        alloc: Global,
-        id: Id,
-        command: &Command,
-        asked: &Asked,
-        reads: &mut Reads<L>,
-    ) -> Result<Reply, AllocError>
-        requires next { IsTrue (commands_are_built (commands_of self.old ++ command.now ∷ [])) }
-        requires command { command.now ≡ Command.Other (Statement.Select asked.now) }
-        requires room { reads.old ≤ 2 ^ 63 }
-        ensures reply { IfOk result (λ r. reply_to self.old (event_of id command.now) ≡ Some r) }
-        ensures raised { IfOk result (λ r. reads.new ≡ reads.old + read_of r) }
-        ensures least { reads.old ≤ reads.new }
-        ensures most { reads.new ≤ reads.old + most_rows }
-        ensures ok { OnOk result (self.new ≡ self.old ++ event_of id command.now ∷ []) }
-        ensures err { OnErr result (self.new ≡ self.old) }
-    {
-        let Some(table) = &self.table else {
-            unreachable!();
-        };
-        let reply = answer(alloc, self.scn, table, &asked.query, reads)?;
-        self.trace.push(note_of(id, command))?;
-        Ok(reply)
-    }
 }
 
-/// The INSERT that a block of the built form is.
-fn only_insert(block: &Block) -> &InsertRows
-    requires { IsTrue (is_some (block_insert block.now.statements)) }
-    ensures { block.now.statements ≡ Statement.Change (ChangeStatement.Insert result.now) ∷ [] }
+/// A refusal that read so many base rows.
+pub(crate) fn refusal(code: Refusal, read: u64) -> Reply
+    ensures { result ≡ refusal_after read code }
 {
-    match block.statements.as_slice() {
-        [Statement::Change(ChangeStatement::Insert(rows))] => rows,
-        _ => unreachable!(),
-    }
-}
-
-/// The reply to an INSERT whose rows came in.
-fn committed(alloc: Global, scn: u64, statement: &InsertRows) -> Reply
-    ensures { result ≡ Reply.Commit (record { scn = scn; rows = length statement.now.rows; read = 0; views = [] }) }
-{
-    Reply::Commit(Committed {
-        scn,
-        rows: statement.rows.len() as u64,
-        read: 0,
-        views: Seq::new(alloc),
+    Reply::Refuse(Refused {
+        code,
+        at: None,
+        read,
     })
 }
 
-/// Puts the rows of an INSERT behind those of the table, or answers its first refusal, and then the table is as it was;
-/// so it is after an error, which says that memory ran out.
-#[tactic(auto, using(crate::proofs::Core::accepting))]
-fn insert_into<L>(
-    alloc: Global,
-    table: &mut Stored<L>,
-    statement: &InsertRows,
-) -> Result<Option<Refusal>, AllocError>
-    requires small { HasSmallKinds table.old.def }
-    ensures def { table.new.def ≡ table.old.def }
-    ensures refusal { IfOk result (λ r. r ≡ insert_refusal table.old.def statement.now) }
-    ensures rows { OnOk result (table.new.rows ≡ rows_left table.old.rows (given_rows statement.now) (insert_refusal table.old.def statement.now)) }
-    ensures err { OnErr result (table.new ≡ table.old) }
+/// `DONE` with the rows read.
+pub(crate) fn done(scn: u64, read: u64) -> Reply
+    ensures { result ≡ Reply.Catalog (record { scn = scn; read = read }) }
 {
-    if let Some(refusal) = insert_refusal(alloc, &table.def, statement)? {
-        return Ok(Some(refusal));
-    }
-    append_rows(alloc, &mut table.rows, statement.rows.as_slice())?;
-    Ok(None)
-}
-
-/// The reply to a query of the built form: its rows, or its first refusal.
-fn answer<L>(
-    alloc: Global,
-    scn: u64,
-    table: &Stored<L>,
-    query: &RawQuery,
-    reads: &mut Reads<L>,
-) -> Result<Reply, AllocError>
-    requires built { IsTrue (query_is_built query.now) }
-    requires few { length table.now.rows ≤ most_rows }
-    requires room { reads.old ≤ 2 ^ 63 }
-    ensures reply { IfOk result (λ r. r ≡ selected_reply scn table.now.rows (resolve (table.now.def ∷ []) query.now)) }
-    ensures raised { IfOk result (λ r. reads.new ≡ reads.old + read_of r) }
-    ensures least { reads.old ≤ reads.new }
-    ensures most { reads.new ≤ reads.old + most_rows }
-{
-    match query_of(alloc, &table.def, query)? {
-        Ok(star) => {
-            let rows = evaluate(alloc, &star, &table.rows, reads)?;
-            Ok(Reply::Answer(Answered {
-                scn,
-                plan: PlanLine::BasePlan,
-                read: table.rows.len() as u64,
-                rows,
-            }))
-        }
-        Err(code) => Ok(Reply::Refuse(Refused {
-            code,
-            at: None,
-            read: 0,
-        })),
-    }
+    Reply::Catalog(Done { scn, read })
 }

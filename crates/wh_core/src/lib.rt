@@ -1,9 +1,14 @@
-//! The catalog as a machine of events: each call is one entry of the journal, and the catalog is at any time what the
-//! definitions make of the entries so far.
+//! The catalog as a state machine: each call is the step of one entry of the journal.
 #![tactic(auto)]
 
-pub mod catalog;
-mod create;
-mod insert;
+mod catalog;
+mod changing;
+mod names;
 mod notes;
-mod select;
+mod putting;
+mod refreshing;
+mod viewing;
+
+pub use catalog::Core;
+pub use notes::Noted;
+pub use refreshing::Begun;

@@ -1,5 +1,6 @@
 ghost use Rattle.std.specs.Prelude.{◌≡◌};
 ghost use Rattle.def_journal.specs.Journal.{event_of};
+ghost use Rattle.wh_core.specs.Calls.{install_of};
 
 use std::marker::Model;
 use std::snapshot::Snapshot;
@@ -24,7 +25,7 @@ impl Model for Noted {
     ghost view = { λ n. record { entry = n.entry; command = n.command.value } };
 }
 
-/// The entry of a command that has one part.
+/// The entry of a command that has one part, or of the first of two.
 pub(crate) fn note_of(id: Id, command: &Command) -> Noted
     ensures { result ≡ event_of id command.now }
 {
@@ -33,6 +34,20 @@ pub(crate) fn note_of(id: Id, command: &Command) -> Noted
             session: id.session,
             command: id.command,
             part: 1,
+        },
+        command: Snapshot::of(command),
+    }
+}
+
+/// The entry of the install of a refresh.
+pub(crate) fn install_note(id: Id, command: &Command) -> Noted
+    ensures { result ≡ install_of id command.now }
+{
+    Noted {
+        entry: Entry {
+            session: id.session,
+            command: id.command,
+            part: 2,
         },
         command: Snapshot::of(command),
     }

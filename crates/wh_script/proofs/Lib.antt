@@ -11,7 +11,7 @@ pub mod LoadLines
 pub mod Behind
 pub mod Walks
 pub mod Names
-pub mod Rows
+pub mod LastCommands
 pub mod Steps
 pub mod Cuts
 pub mod Before

@@ -1,10 +1,8 @@
 -- What was made of a draft that is built is built before its last command or section, and whether it is built with it.
-use Rattle.std.proofs.Common.{◌≡◌, ℕ, ◌+◌, ◌<◌, ◌≤◌, suc, List, [], ◌∷◌, ◌++◌, length, Bool, true, false, Option, Some, None, Result, Ok, Err, cond, refl, ap, sym, subst, ◌∙◌, arith, ◌&&◌, ◌||◌, append-nil}
-use Rattle.std.proofs.lemmas.Bool.Decides.{nat_tests}
-use Rattle.std.proofs.lemmas.List.Sums.{sum_by-append}
+use Rattle.std.proofs.Common.{◌≡◌, ℕ, List, [], ◌∷◌, ◌++◌, Bool, true, false, Option, Some, None, Result, Ok, Err, cond, refl, ap, sym, subst, ◌∙◌, ◌&&◌, ◌||◌, append-nil}
 use Rattle.std.specs.List.{list_all, list_any}
-use Rattle.std.specs.Prelude.{◌==◌, codes, is_none, map, nat_le, not, option_map, option_to_list, sum_by}
-use Rattle.def_built.specs.Commands.{commands_are_built, first_is_built, later_is_built, most_rows, rows_inserted}
+use Rattle.std.specs.Prelude.{◌==◌, codes, is_none, map, not, option_map, option_to_list}
+use Rattle.def_built.specs.Commands.{command_is_built, commands_are_built}
 use Rattle.def_built.specs.Form.{draft_is_built, section_is_built, sections_are_built}
 use Rattle.def_built.specs.Forms.{is_built}
 use Rattle.def_built.specs.declared.forms.Form.TheVariants as forms
@@ -17,7 +15,7 @@ use Rattle.wh_base.specs.declared.statements.Command.{Command}
 use Rattle.wh_base.specs.declared.statements.Command.TheVariants as commands
 use Rattle.wh_base.specs.declared.statements.Section.{Section}
 use Rattle.wh_lex.specs.declared.token.Token.{Token}
-use Rattle.wh_script.proofs.Rows.{all_more, but_last-end}
+use Rattle.wh_script.proofs.LastCommands.{all_more, but_last-end}
 use Rattle.wh_script.specs.Built.{IsBuiltBefore, but_last, may_stand, shorter_last, shorter_section}
 
 left_of : (p q : Bool) → (p && q) ≡ true → p ≡ true
@@ -81,7 +79,11 @@ section-built (b ∷ bs) s h =
     by_sections [] = refl
     by_sections (x ∷ xs) = refl
 
-pub ruleset sections = (section-commands, section-built, append-nil)
+-- the same, where it may stand there
+pub section-last : (before : List Section) (s : Section) (stands commands : Bool) → sections_are_built (before ++ shorter_section s.session s.commands) ≡ true → stands ≡ true → stands ≡ may_stand before s.session → commands ≡ commands_are_built s.commands → commands ≡ sections_are_built (before ++ s ∷ [])
+section-last before s stands commands h there is e = e ∙ sym (ap (λ b. b && commands_are_built s.commands) (sym is ∙ there)) ∙ section-built before s h
+
+pub ruleset sections = (section-commands, section-built, section-last, append-nil)
 
 -- ---- without the last command
 
@@ -89,24 +91,8 @@ all_but_last : {A : Type 0} (p : A → Bool) (x : A) (xs : List A) → list_all 
 all_but_last p x [] h = refl
 all_but_last p x (y ∷ ys) h = both_of (p x) (list_all p (but_last (y ∷ ys))) (left_of (p x) (list_all p (y ∷ ys)) h) (all_but_last p y ys (right_of (p x) (list_all p (y ∷ ys)) h))
 
-sum_but_last : {A : Type 0} (f : A → ℕ) (x : A) (xs : List A) → sum_by f (but_last (x ∷ xs)) ≤ sum_by f (x ∷ xs)
-sum_but_last f x [] = omega arith
-sum_but_last f x (y ∷ ys) =
-    let rest : sum_by f (but_last (y ∷ ys)) ≤ sum_by f (y ∷ ys) = sum_but_last f y ys in
-    let one : sum_by f (x ∷ but_last (y ∷ ys)) ≡ f x + sum_by f (but_last (y ∷ ys)) = sum_by-append f (x ∷ []) (but_last (y ∷ ys)) ∙ omega arith in
-    let two : sum_by f (x ∷ y ∷ ys) ≡ f x + sum_by f (y ∷ ys) = sum_by-append f (x ∷ []) (y ∷ ys) ∙ omega arith in
-    omega (arith, rest, one, two)
-
-fewer : (m n most : ℕ) → m ≤ n → nat_le n most ≡ true → nat_le m most ≡ true
-fewer m n most h k = grind (arith, nat_tests, h, k)
-
 commands_before : (c : Command) (cs : List Command) → commands_are_built (c ∷ cs) ≡ true → commands_are_built (but_last (c ∷ cs)) ≡ true
-commands_before c [] h = refl
-commands_before c (x ∷ xs) h =
-    let rest : (list_all later_is_built (x ∷ xs) && nat_le (sum_by rows_inserted (x ∷ xs)) most_rows) ≡ true = right_of (first_is_built c) _ h in
-    let all : list_all later_is_built (but_last (x ∷ xs)) ≡ true = all_but_last later_is_built x xs (left_of (list_all later_is_built (x ∷ xs)) (nat_le (sum_by rows_inserted (x ∷ xs)) most_rows) rest) in
-    let few : nat_le (sum_by rows_inserted (but_last (x ∷ xs))) most_rows ≡ true = fewer _ _ most_rows (sum_but_last rows_inserted x xs) (right_of (list_all later_is_built (x ∷ xs)) (nat_le (sum_by rows_inserted (x ∷ xs)) most_rows) rest) in
-    both_of (first_is_built c) _ (left_of (first_is_built c) _ h) (both_of (list_all later_is_built (but_last (x ∷ xs))) _ all few)
+commands_before c cs h = all_but_last command_is_built c cs h
 
 section_before : (n : ℕ) (c : Command) (cs : List Command) → section_is_built (record { session = n; commands = c ∷ cs }) ≡ true → section_is_built (record { session = n; commands = but_last (c ∷ cs) }) ≡ true
 section_before n c cs h =

@@ -5,7 +5,7 @@ use Rattle.std.proofs.lemmas.List.{length-drop, length-take, length-take-le, tak
 use Rattle.std.specs.Prelude.{flat_map, nat_le, nat_lt, ◌&&◌}
 use Rattle.std.specs.Str.Lossy.{utf8_valid_len}
 use Rattle.def_built.specs.Form.{built_script, draft_is_built}
-use Rattle.def_grammar.specs.Lines.{Directive, DirectiveAt, EndAt, EndLoad, EndScript, InText, Line, LoadBlock, LoadOf, Order, Setup, TextRun, Unknown, directive_on, directive_piece, pieces, pieces_from}
+use Rattle.def_grammar.specs.Lines.{Directive, DirectiveAt, EndAt, EndScript, InText, Line, LoadBlock, LoadOf, TextRun, directive_on, directive_piece, pieces, pieces_from}
 use Rattle.def_grammar.specs.Script.{Directed, Draft, bad, Element, Loaded, block_bytes, broken_within, ending, line_at, first_draft, piece_elements, read_from, size_of, take_directive, take_load, text_elements, where_built}
 use Rattle.wh_base.specs.declared.statements.ScriptKind.TheVariants.{NotUtf8}
 use Rattle.wh_script.proofs.LineRuns.{length_of_line, lines_at-end, pieces-directive, pieces-text}

@@ -1,22 +1,12 @@
 -- What is asked of one more step of a draft, where what was read before it is built.
-use Rattle.def_built.specs.Commands.{most_rows, rows_inserted}
 use Rattle.def_built.specs.Form.{sections_are_built}
 use Rattle.def_built.specs.Forms.{is_built}
 use Rattle.def_built.specs.declared.forms.Form.TheVariants as forms
 use Rattle.def_grammar.specs.Script.{Draft}
-use Rattle.std.specs.Prelude.{◌&&◌, ◌||◌, ◌==◌, ◌+◌, ◌++◌, ◌∷◌, ◌≡◌, Bool, List, None, Option, Some, [], min, sum_by, true, ℕ}
+use Rattle.std.specs.Prelude.{◌&&◌, ◌||◌, ◌==◌, ◌++◌, ◌∷◌, ◌≡◌, Bool, List, None, Option, Some, [], true, ℕ}
 use Rattle.wh_base.specs.Lists.{is_empty}
 use Rattle.wh_base.specs.declared.statements.Command.{Command}
 use Rattle.wh_base.specs.declared.statements.Section.{Section}
-
--- the rows that the commands behind the first insert
-abbrev pub rows_behind_first : List Command → ℕ
-rows_behind_first [] = 0
-rows_behind_first (c ∷ cs) = sum_by rows_inserted cs
-
--- the same, where what is above the most that a script may insert counts as one more than that
-abbrev pub rows_kept : List Command → ℕ
-rows_kept cs = min (rows_behind_first cs) (most_rows + 1)
 
 abbrev pub but_last : {A : Type 0} → List A → List A
 but_last [] = []

@@ -10,7 +10,6 @@ use crate::draft::{Draft, bad};
 use crate::fault::ScriptFault;
 use crate::lines::{Directive, session_number};
 use crate::order::{order_fault, order_numbers};
-use crate::section::OpenSection;
 use std::alloc::{AllocError, Global};
 use wh_base::seq::Seq;
 use wh_base::statements::{Script, ScriptKind, Section};
@@ -54,7 +53,10 @@ impl Draft {
         match self.into_sections() {
             Ok(before) => Ok(Draft {
                 before,
-                now: Some(OpenSection::new(alloc, session)),
+                now: Some(Section {
+                    session,
+                    commands: Seq::new(alloc),
+                }),
                 block: None,
                 open_at: None,
                 order: None,
@@ -82,7 +84,7 @@ impl Draft {
         ensures { result ≡ last_number self.entry.now }
     {
         match &self.now {
-            Some(section) => Some(section.session()),
+            Some(section) => Some(section.session),
             None => last_session(self.before.as_slice()),
         }
     }
@@ -196,12 +198,12 @@ impl Draft {
 }
 
 // The sections before and the one that goes on.
-fn sections_with(before: Seq<Section>, now: Option<OpenSection>) -> Result<Seq<Section>, AllocError>
+fn sections_with(before: Seq<Section>, now: Option<Section>) -> Result<Seq<Section>, AllocError>
     ensures { IfOk result (λ all. all ≡ before ++ option_to_list now) }
 {
     let mut all = before;
     match now {
-        Some(section) => all.push(section.into_section())?,
+        Some(section) => all.push(section)?,
         None => {}
     }
     Ok(all)

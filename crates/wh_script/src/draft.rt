@@ -7,10 +7,10 @@ ghost use Rattle.wh_script.specs.Drafts.{one_more, stated};
 ghost use Rattle.wh_script.specs.Sections.{Gives};
 
 use crate::fault::ScriptFault;
-use crate::section::OpenSection;
 use std::alloc::{AllocError, Global};
 use std::marker::Model;
 use wh_base::seq::Seq;
+use wh_base::shared::Shared;
 use wh_base::statements::{
     BadScript, Block, ChangeStatement, Command, ScriptKind, Section, Statement,
 };
@@ -39,7 +39,7 @@ impl Model for OpenBlock {
 #[derive(Drop)]
 pub struct Draft {
     pub(crate) before: Seq<Section>,
-    pub(crate) now: Option<OpenSection>,
+    pub(crate) now: Option<Section>,
     pub(crate) block: Option<OpenBlock>,
     pub(crate) open_at: Option<u64>,
     pub(crate) order: Option<Seq<u32>>,
@@ -305,18 +305,30 @@ impl Draft {
 // The section that goes on with one command more, where one does. An error says that memory ran out.
 fn longer(
     alloc: Global,
-    now: Option<OpenSection>,
+    now: Option<Section>,
     command: Command,
-) -> Result<Option<OpenSection>, AllocError>
+) -> Result<Option<Section>, AllocError>
     ensures { IfOk result (λ o. o ≡ option_map (one_more command) now) }
 {
     match now {
-        Some(section) => Ok(Some(section.with_command(alloc, command)?)),
+        Some(section) => Ok(Some(section_with(alloc, section, command)?)),
         None => {
             discard(command);
             Ok(None)
         }
     }
+}
+
+// The section with one command more. An error says that memory ran out.
+fn section_with(alloc: Global, section: Section, command: Command) -> Result<Section, AllocError>
+    ensures { IfOk result (λ s. s ≡ one_more command section) }
+{
+    let Section {
+        session,
+        mut commands,
+    } = section;
+    commands.push(Shared::new(alloc, command)?)?;
+    Ok(Section { session, commands })
 }
 
 // A command that no section takes.

@@ -17,7 +17,6 @@ pub mod reading;
 pub mod script;
 #[cfg(test)]
 mod script_tests;
-pub mod section;
 #[cfg(test)]
 mod tests;
 pub mod text;

@@ -1,17 +1,18 @@
+ghost use Rattle.def_built.specs.Commands.{commands_are_built};
 ghost use Rattle.def_built.specs.Form.{draft_is_built, sections_are_built};
 ghost use Rattle.def_grammar.specs.Script.{line_at, sections_of, take_directive, take_load, take_statement, text_elements, where_built};
 ghost use Rattle.std.specs.List.{list_all};
 ghost use Rattle.std.specs.Prelude.{◌≡◌, ◌<◌, ◌≤◌, ◌-◌, ◌^◌, ◌++◌, ◌∷◌, [], IfOk, Ok, drop, length, take, true};
 ghost use Rattle.wh_lex.specs.Lex.{token_fits};
-ghost use Rattle.wh_script.specs.Built.{IsBuiltBefore, may_stand, shorter_section};
+ghost use Rattle.wh_script.specs.Built.{IsBuiltBefore, but_last, may_stand, shorter_section};
 ghost use Rattle.wh_script.specs.Drafts.{stated};
 ghost use Rattle.wh_script.specs.Pieces.{IsTaken};
 ghost use Rattle.wh_script.specs.Sections.{Gives, HasFewBytes, meant};
 
+use crate::built::command_is_built;
 use crate::draft::{Draft, bad};
 use crate::fault::ScriptFault;
 use crate::lines::{Directive, LineMark};
-use crate::section::OpenSection;
 use crate::text::TextAt;
 use def_built::forms::{Form, is_built};
 use std::alloc::Global;
@@ -155,15 +156,28 @@ impl Draft {
 
 // Whether a section is built behind these.
 #[tactic(auto, using(crate::proofs::Steps::sections))]
-fn is_last_built(before: &[Section], section: &OpenSection) -> bool
+fn is_last_built(before: &[Section], section: &Section) -> bool
     requires { sections_are_built (before.now ++ shorter_section section.now.session section.now.commands) ≡ true }
     ensures { result ≡ sections_are_built (before.now ++ section.now ∷ []) }
 {
-    may_stand(before, section.session()) && section.are_commands_built()
+    may_stand(before, section.session) && are_commands_built(section)
 }
 
 fn may_stand(before: &[Section], session: u32) -> bool
     ensures { result ≡ may_stand before.now session }
 {
     (before.is_empty() && session == 0) || is_built(Form::Session)
+}
+
+// Whether a section's commands are built, where those before the last one are. The time is that of a test on the last one
+// alone.
+#[tactic(auto, using(crate::proofs::LastCommands::commands))]
+fn are_commands_built(section: &Section) -> bool
+    requires { commands_are_built (but_last section.now.commands) ≡ true }
+    ensures { result ≡ commands_are_built section.now.commands }
+{
+    match section.commands.as_slice().split_last() {
+        Some((last, _)) => command_is_built(last.get()),
+        None => true,
+    }
 }

@@ -49,7 +49,6 @@ fn scripts(rt: HostRuntime) -> Result<(), Fail> {
         ),
         ("@setup\n@load T\n\"\n@endload\n'", Err((2, NotBuilt))),
         ("@setup\nBEGIN;\n", Err((2, NotBuilt))),
-        ("\n@session 1", Err((2, NotBuilt))),
     ];
     for (text, want) in table {
         assert!(rt; read(alloc, text.as_bytes(), false) == Some(want), "{text}");
@@ -58,5 +57,38 @@ fn scripts(rt: HostRuntime) -> Result<(), Fail> {
     assert!(rt; read(alloc, b"@end\n\xff", true) == Some(Ok(5)));
     assert!(rt; read(alloc, b"@setup\n\n\xff!", false) == Some(Err((3, NotUtf8))));
     assert!(rt; read(alloc, b"@setup\n;\xff", false) == Some(Err((2, Syntax))));
+    Ok(())
+}
+
+#[test]
+fn built_parts(rt: HostRuntime) -> Result<(), Fail> {
+    let alloc = rt.alloc();
+    let table = [
+        (
+            "@setup\nCREATE TABLE T (A NUMBER NOT NULL);\nCREATE MATERIALIZED VIEW V AS SELECT A FROM T;\n@session 1\nEXEC DBMS_MVIEW.REFRESH('V','C');\n@session 2\nSHOW VIEW V;\n@order 2 1 1\n@end",
+            Ok(176),
+        ),
+        (
+            "@session 2\nSHOW VIEW V;\n@order 2 2",
+            Err((3, OrderTooLong)),
+        ),
+        ("@setup\nSELECT A FROM T AS OF SCN 1;", Err((2, NotBuilt))),
+        (
+            "@setup\nCREATE TABLE T (A NUMBER UNIQUE);",
+            Err((2, NotBuilt)),
+        ),
+        (
+            "@setup\nCREATE MATERIALIZED VIEW V REFRESH FAST AS SELECT A FROM T;",
+            Err((2, NotBuilt)),
+        ),
+        (
+            "@session 1\nDROP MATERIALIZED VIEW V;\nEXEC DBMS_MVIEW.REFRESH('V');",
+            Err((3, NotBuilt)),
+        ),
+        ("@session 1\nSHOW LOG T;\n@session 1", Err((2, NotBuilt))),
+    ];
+    for (text, want) in table {
+        assert!(rt; read(alloc, text.as_bytes(), false) == Some(want), "{text}");
+    }
     Ok(())
 }

@@ -1,7 +1,6 @@
 ghost use Rattle.def_built.specs.Form.{draft_is_built};
 ghost use Rattle.std.specs.Prelude.{◌≡◌, IfOk, true};
 
-use crate::built::command_form;
 use crate::draft::Draft;
 use crate::fault::ScriptFault;
 use crate::lines::{
@@ -9,11 +8,9 @@ use crate::lines::{
 };
 use crate::load::{is_uneven, records};
 use crate::order::order_numbers;
-use def_built::forms::Form;
 use std::alloc::Global;
 use std::test::Fail;
-use wh_base::seq::Seq;
-use wh_base::statements::{Block, Command, ScriptKind};
+use wh_base::statements::ScriptKind;
 use wh_base::txt::Txt;
 use wh_lex::lex::statement_tokens;
 
@@ -280,7 +277,7 @@ fn texts_read(rt: HostRuntime) -> Result<(), Fail> {
     let alloc = rt.alloc();
     let table = [
         (
-            "\nINSERT INTO T VALUES (1), (2);\nSELECT A, SUM(A) FROM T GROUP BY A;",
+            "\nINSERT INTO T (A) VALUES (1), (2);\nSELECT A FROM T, U WHERE A > 1;",
             0,
             None,
         ),
@@ -329,7 +326,7 @@ fn parts_read(rt: HostRuntime) -> Result<(), Fail> {
     let alloc = rt.alloc();
     let word = b"1".as_slice();
     let session = Draft::new(alloc).read_directive(alloc, 1, &Directive::Session(word));
-    assert!(rt; has_fault(session, 1, Some(ScriptKind::NotBuilt)));
+    assert!(rt; has_fault(session, 1, None));
     assert!(rt; has_fault(load_read(alloc), 2, Some(ScriptKind::LoadShape)));
     assert!(rt;
         has_fault(
@@ -345,9 +342,5 @@ fn parts_read(rt: HostRuntime) -> Result<(), Fail> {
         },
         Err(_) => assert!(rt; false),
     }
-    let block = Command::Block(Block {
-        statements: Seq::new(alloc),
-    });
-    assert!(rt; matches!(command_form(&block), Form::Block));
     Ok(())
 }

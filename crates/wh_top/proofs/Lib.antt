@@ -1,3 +1,6 @@
+pub mod Apart
+pub mod Counts
 pub mod Outputs
-pub mod Steps
-pub mod Transcripts
+pub mod Parts
+pub mod Runnable
+pub mod SoFar

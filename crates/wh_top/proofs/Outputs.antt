@@ -1,113 +1,90 @@
--- What is written and counted for a script, by its sections.
-use Rattle.std.proofs.Common.{IfSome, None, subst, ◌≡◌, ◌∙◌, sym, ap, refl, arith, rules, ℕ, suc, ◌+◌, List, [], ◌∷◌, ◌++◌, length, map, Some}
-use Rattle.std.specs.List.{enumerate_from}
-use Rattle.std.specs.Prelude.{◌&&◌, ◌==◌, ◌||◌, Bool, OnOk, false, Option, Result, Ok, Err, slice_index, slice_set, true}
-use Rattle.std.proofs.lemmas.Bool.{and_parts}
-use Rattle.std.proofs.lemmas.Bool.Decides.{nat_tests}
-use Rattle.std.proofs.lemmas.List.{append_assoc}
-use Rattle.def_built.specs.Commands.{commands_are_built}
-use Rattle.def_built.specs.Form.{no_section, script_is_built, section_is_built, sections_are_built}
-use Rattle.def_journal.specs.Journal.{replies_of}
-use Rattle.def_output.specs.Reads.{reads_of}
-use Rattle.def_transcript.specs.Texts.{journal_line, lines_text}
-use Rattle.wh_base.specs.Lists.{is_empty}
-use Rattle.wh_base.specs.declared.statements.Command.{Command}
+-- What is written and counted for a whole script.
+use Rattle.std.proofs.Common.{◌≡◌, ◌∙◌, sym, ap, subst, refl, arith, ℕ, ◌+◌, ◌==◌, true, cond, IfSome, List, [], ◌∷◌, ◌++◌, length, map, drop, take, flat_map, Option, Some, None}
+use Rattle.std.specs.List.{AllByRecursion, enumerate_from}
+use Rattle.std.proofs.lemmas.List.{append-nil, drop_all, take_all}
+use Rattle.std.proofs.lemmas.List.Sums.{sum_by-cons}
+use Rattle.wh_base.specs.Parts.{section_entries}
+use Rattle.wh_base.specs.declared.statements.Entry.{Entry}
 use Rattle.wh_base.specs.declared.statements.Script.{Script}
 use Rattle.wh_base.specs.declared.statements.Section.{Section}
-use Rattle.wh_top.specs.Top.{AreTold, Counted, IsOfSetup, output_of, reads_in, script_read, setup_events, told_text}
-use Rattle.wh_top.proofs.Transcripts.{other_reads, setup_reads, setup_transcript}
+use Rattle.def_journal.specs.Journal.{is_legal, of_session, order_of}
+use Rattle.def_transcript.specs.Texts.{journal_line, lines_text}
+use Rattle.wh_order.specs.Laws.{session_told, told_text}
+use Rattle.wh_order.proofs.Journals.{each_own}
+use Rattle.wh_order.proofs.Lawful.{laws_hold}
+use Rattle.wh_session.specs.Run.{Run}
+use Rattle.wh_top.specs.Running.{AreAsFar, CountedSoFar, IsAsFar, IsRunnable, ahead_of, read_by}
+use Rattle.wh_top.specs.Top.{Counted, output_of, reads_in, script_read}
+use Rattle.wh_top.proofs.SoFar.{neither}
 
--- ---- the sections of a script that is built
+-- ---- no part is left
 
-empty_is : {A : Type 0} (xs : List A) → is_empty xs ≡ true → xs ≡ []
-empty_is [] h = refl
-empty_is (x ∷ xs) h = cc
+ended_left : (script : Script) (journal : List Entry) (s : Section) (r : Run) → of_session s.session journal ≡ section_entries s → IsAsFar script journal s r → r.ahead ≡ 0
+ended_left script journal s r own far = far.ended (far.left_is ∙ ap (λ es. drop (length es) (section_entries s)) own ∙ drop_all (length (section_entries s)) (section_entries s) (omega arith))
 
--- a form that the table doesn't have
-or_not : (p : Bool) → (p || false) ≡ true → p ≡ true
-or_not true h = refl
-or_not false h = h
+ended_ahead : (script : Script) (journal : List Entry) (n : ℕ) (ss : List Section) (rs : List Run) → AllByRecursion (λ s. of_session s.session journal ≡ section_entries s) ss → AreAsFar script journal ss rs → ahead_of n rs ≡ 0
+ended_ahead script journal n [] [] own far = refl
+ended_ahead script journal n [] (r ∷ rs) own far = absurd far
+ended_ahead script journal n (s ∷ ss) [] own far = absurd far
+ended_ahead script journal n (s ∷ ss) (r ∷ rs) own far =
+    let f : Run → ℕ = λ q. cond (q.section.session == n) q.ahead 0 in
+    let none : f r ≡ 0 = ap (λ a. cond (r.section.session == n) a 0) (ended_left script journal s r own.0 far.0) ∙ neither (r.section.session == n) 0 in
+    omega (arith, sum_by-cons f r rs, none, ended_ahead script journal n ss rs own.1 far.1)
 
-pub setup_script : (script : Script) (others : List Section) (setup : Section) → script_is_built script ≡ true → script.sections ≡ others ++ setup ∷ [] → IsOfSetup script setup.commands
-setup_script script others setup h is =
-    let both = and_parts (sections_are_built script.sections) (is_empty script.order || false) h in
-    let alone = only_section others setup (sym (ap sections_are_built is) ∙ both.0) in
-    let section = and_parts ((setup.session == 0) || false) (commands_are_built setup.commands) alone.1 in
-    let zero : (setup.session == 0) ≡ true = or_not (setup.session == 0) section.0 in
-    let session : setup.session ≡ 0 = grind (arith, nat_tests, zero) in
-    let none : script.order ≡ [] = empty_is script.order (or_not (is_empty script.order) both.1) in
-    let made : ℕ → List ℕ → Script = λ n o. record { sections = record { session = n; commands = setup.commands } ∷ []; order = o } in
-    let same : script ≡ made setup.session script.order = ap (λ ss. record { sections = ss; order = script.order }) (is ∙ ap (λ ss. ss ++ setup ∷ []) alone.0) in
-    let commands : commands_are_built setup.commands ≡ true = section.1 in
-    (same ∙ ap (λ n. made n script.order) session ∙ ap (made 0) none, search (rules, commands))
-  where
-    only_section : (others : List Section) (setup : Section) → sections_are_built (others ++ setup ∷ []) ≡ true → (others ≡ []) × (section_is_built setup ≡ true)
-    only_section [] setup h = (refl, h)
-    only_section (s ∷ []) setup h = cc
-    only_section (s ∷ t ∷ more) setup h = cc
+raised_same : (f g : ℕ → ℕ) (k : ℕ) (old : List ℕ) → ((n : ℕ) → f n ≡ g n) → map (λ p. p.1 + f p.0) (enumerate_from k old) ≡ map (λ p. p.1 + g p.0) (enumerate_from k old)
+raised_same f g k [] same = refl
+raised_same f g k (c ∷ cs) same = ap (λ x. (c + x) ∷ map (λ p. p.1 + f p.0) (enumerate_from (k + 1) cs)) (same k) ∙ ap (λ xs. (c + g k) ∷ xs) (raised_same f g (k + 1) cs same)
 
-pub no_script : (script : Script) → script_is_built script ≡ true → script.sections ≡ [] → script ≡ no_section
-no_script script h is =
-    let both = and_parts (sections_are_built script.sections) (is_empty script.order || false) h in
-    let none : script.order ≡ [] = empty_is script.order (or_not (is_empty script.order) both.1) in
-    ap (λ ss. record { sections = ss; order = script.order }) is ∙ ap (λ o. record { sections = []; order = o }) none
+-- a script's own order is legal
+pub order_legal : (script : Script) → IsRunnable script → is_legal script (order_of script) ≡ true
+order_legal script runnable = laws_hold.legal script runnable.differ
 
--- ---- what is written
+-- what was counted for the whole order
+pub counted_whole : (script : Script) (runs : List Run) (old reads : List ℕ) → IsRunnable script → AreAsFar script (order_of script) script.sections runs → CountedSoFar script (order_of script) runs old reads → Counted old reads (Some script)
+counted_whole script runs old reads runnable far counted =
+    let journal : List Entry = order_of script in
+    let none : (n : ℕ) → ahead_of n runs ≡ 0 = λ n. ended_ahead script journal n script.sections runs (each_own script journal (order_legal script runnable)) far in
+    let same : (n : ℕ) → read_by script journal runs n ≡ reads_in (Some script) n = λ n. omega (arith, none n) in
+    counted ∙ raised_same (read_by script journal runs) (reads_in (Some script)) 0 old same
 
-pub setup_output : (script : Script) (commands : List Command) (before text : List ℕ) → IsOfSetup script commands → AreTold (length commands) (replies_of (setup_events commands)) → text ≡ before ++ told_text (replies_of (setup_events commands)) → text ++ lines_text (journal_line (map (λ e. e.entry) (setup_events commands)) ∷ []) ≡ before ++ output_of (Some script)
-setup_output script commands before text is told so =
-    let built : commands_are_built commands ≡ true = search (rules, is.1) in
-    let line : List ℕ = lines_text (journal_line (map (λ e. e.entry) (setup_events commands)) ∷ []) in
-    ap (λ t. t ++ line) so
-    ∙ append_assoc before (told_text (replies_of (setup_events commands))) line
-    ∙ ap (λ t. before ++ t) (sym (ap (λ s. output_of (Some s)) is.0 ∙ setup_transcript commands built told))
+texts_far : (script : Script) (journal : List Entry) (ss : List Section) (rs : List Run) → AreAsFar script journal ss rs → flat_map (λ r. r.text) rs ≡ flat_map (λ s. told_text (session_told script journal s)) ss
+texts_far script journal [] [] far = refl
+texts_far script journal [] (r ∷ rs) far = absurd far
+texts_far script journal (s ∷ ss) [] far = absurd far
+texts_far script journal (s ∷ ss) (r ∷ rs) far =
+    ap (λ t. t ++ flat_map (λ q. q.text) rs) far.0.text_is
+    ∙ ap (λ t. told_text (session_told script journal s) ++ t) (texts_far script journal ss rs far.1)
 
-pub none_output : (script : Script) → script ≡ no_section → output_of (Some script) ≡ lines_text (journal_line [] ∷ [])
-none_output script is = ap (λ s. output_of (Some s)) is
+-- the texts of the sessions and the line of the order
+pub output_whole : (script : Script) (runs : List Run) → IsRunnable script → AreAsFar script (order_of script) script.sections runs → flat_map (λ r. r.text) runs ++ lines_text (journal_line (order_of script) ∷ []) ≡ output_of (Some script)
+output_whole script runs runnable far =
+    let journal : List Entry = order_of script in
+    ap (λ t. t ++ lines_text (journal_line journal ∷ [])) (texts_far script journal script.sections runs far)
+    ∙ sym (laws_hold.transcript_by_sessions script journal (order_legal script runnable))
 
--- ---- what is counted
+-- the same where the script and its order go by other names
+pub output_written : (script whole : Script) (journal : List Entry) (runs : List Run) (text out : List ℕ) → IsRunnable script → whole ≡ script → journal ≡ order_of script → AreAsFar whole journal whole.sections runs → text ≡ flat_map (λ r. r.text) runs → out ≡ text ++ lines_text (journal_line journal ∷ []) → out ≡ output_of (Some script)
+output_written script whole journal runs text out runnable same order far texts written =
+    let ended : AreAsFar script (order_of script) script.sections runs = subst (λ es. AreAsFar script es script.sections runs) order (subst (λ s. AreAsFar s journal s.sections runs) same far) in
+    written
+    ∙ ap (λ t. t ++ lines_text (journal_line journal ∷ [])) texts
+    ∙ ap (λ es. flat_map (λ r. r.text) runs ++ lines_text (journal_line es ∷ [])) order
+    ∙ output_whole script runs runnable ended
 
-pub setup_read : (script : Script) (commands : List Command) → IsOfSetup script commands → AreTold (length commands) (replies_of (setup_events commands)) → reads_in (Some script) 0 ≡ reads_of (replies_of (setup_events commands))
-setup_read script commands is told =
-    let built : commands_are_built commands ≡ true = search (rules, is.1) in
-    ap (λ s. reads_in (Some s) 0) is.0 ∙ setup_reads commands built told
+pub output_counted : (script whole : Script) (journal : List Entry) (runs : List Run) (old reads : List ℕ) → IsRunnable script → whole ≡ script → journal ≡ order_of script → AreAsFar whole journal whole.sections runs → CountedSoFar whole journal runs old reads → Counted old reads (Some script)
+output_counted script whole journal runs old reads runnable same order far counted =
+    let ended : AreAsFar script (order_of script) script.sections runs = subst (λ es. AreAsFar script es script.sections runs) order (subst (λ s. AreAsFar s journal s.sections runs) same far) in
+    let all : CountedSoFar script (order_of script) runs old reads = subst (λ es. CountedSoFar script es runs old reads) order (subst (λ s. CountedSoFar s journal runs old reads) same counted) in
+    counted_whole script runs old reads runnable ended all
 
-pub setup_others : (script : Script) (commands : List Command) → IsOfSetup script commands → AreTold (length commands) (replies_of (setup_events commands)) → (n : ℕ) → reads_in (Some script) (suc n) ≡ 0
-setup_others script commands is told n =
-    let built : commands_are_built commands ≡ true = search (rules, is.1) in
-    ap (λ s. reads_in (Some s) (suc n)) is.0 ∙ other_reads n commands built told
+-- what is left of a slice in its list
+pub written_back : (n : ℕ) (new old : List Run) → n ≡ length old → length new ≡ length old → take n (new ++ drop (length new) old) ≡ new
+written_back n new old count same =
+    ap (λ rs. take n (new ++ rs)) (drop_all (length new) old (omega (arith, same)))
+    ∙ ap (take n) (append-nil new)
+    ∙ take_all n new (omega (arith, count, same))
 
-pub others_on_ok : {T E : Type 0} (result : Result T E) (script : Script) (commands : List Command) → IsOfSetup script commands → OnOk result (AreTold (length commands) (replies_of (setup_events commands))) → OnOk result ((n : ℕ) → reads_in (Some script) (suc n) ≡ 0)
-others_on_ok (Ok x) script commands is told = setup_others script commands is told
-others_on_ok (Err e) script commands is told = told
-
-pub none_read : (script : Script) → script ≡ no_section → (n : ℕ) → reads_in (Some script) n ≡ 0
-none_read script is n = ap (λ s. reads_in (Some s) n) is
-
--- ---- the counters of all sessions
-
-later_counted : (script : Option Script) (k : ℕ) (counters : List ℕ) → ((n : ℕ) → reads_in script (suc n) ≡ 0) → map (λ p. p.1 + reads_in script p.0) (enumerate_from (suc k) counters) ≡ counters
-later_counted script k [] others = refl
-later_counted script k (c ∷ cs) others =
-    let here : c + reads_in script (suc k) ≡ c = omega (arith, others k) in
-    let next : suc k + 1 ≡ suc (suc k) = omega arith in
-    ap (λ n. n ∷ map (λ p. p.1 + reads_in script p.0) (enumerate_from (suc k + 1) cs)) here
-    ∙ ap (λ n. c ∷ map (λ p. p.1 + reads_in script p.0) (enumerate_from n cs)) next
-    ∙ ap (λ ns. c ∷ ns) (later_counted script (suc k) cs others)
-
-pub all_counted : (script : Option Script) (c read : ℕ) (counters : List ℕ) → read ≡ c + reads_in script 0 → ((n : ℕ) → reads_in script (suc n) ≡ 0) → Counted (c ∷ counters) (read ∷ counters) script
-all_counted script c read counters is others = ap (λ n. n ∷ counters) is ∙ ap (λ ns. (c + reads_in script 0) ∷ ns) (sym (later_counted script 0 counters others))
-
-pub counted_by : (script : Option Script) (old new : List ℕ) → length old ≡ 65 → new ≡ slice_set old 0 (slice_index old 0 + reads_in script 0) → ((n : ℕ) → reads_in script (suc n) ≡ 0) → Counted old new script
-counted_by script [] new many is others = absurd (none 0 refl many)
-  where
-    none : (n : ℕ) → n ≡ 0 → n ≡ 65 → ⊥
-    none n empty many = omega (arith, empty, many)
-counted_by script (c ∷ cs) new many is others = is ∙ all_counted script c (c + reads_in script 0) cs refl others
-
+-- the script that the bytes are
 pub counted_where : (left : Option (List ℕ)) (script : Script) (old new : List ℕ) → IfSome left (λ bytes. script_read bytes ≡ Some script) → Counted old new (Some script) → IfSome left (λ bytes. Counted old new (script_read bytes))
 counted_where None script old new read counted = tt
 counted_where (Some bytes) script old new read counted = subst (Counted old new) (sym read) counted
-
--- a setup, or no section
-pub ruleset sections = (setup_script, no_script, setup_output, setup_read, setup_others, none_output, none_read)

@@ -120,7 +120,6 @@ const FAULTS: &[(&str, u64, ScriptKind)] = &[
     ("@end\n\n@end\n", 3, ScriptKind::AfterEnd),
     ("@end\n\r", 2, ScriptKind::AfterEnd),
     ("@end\r\n \t\r\n;\n", 3, ScriptKind::AfterEnd),
-    ("@setup\n@session 1\n@end\n", 2, ScriptKind::NotBuilt),
     (
         "@setup\nCREATE TABLE T (A NUMBER);\nBEGIN; COMMIT;\n@end\n",
         3,
@@ -131,31 +130,37 @@ const FAULTS: &[(&str, u64, ScriptKind)] = &[
         2,
         ScriptKind::NotBuilt,
     ),
-    ("@setup\n@order\n@end\n", 2, ScriptKind::NotBuilt),
-    (
-        "@setup\nINSERT INTO T VALUES (1);\n@end\n",
-        2,
-        ScriptKind::NotBuilt,
-    ),
     (
         "@setup\nCREATE TABLE T (A NUMBER PRIMARY KEY);\n",
         2,
         ScriptKind::NotBuilt,
     ),
     (
-        "@setup\nCREATE TABLE T (A NUMBER(16));\n@end\n",
+        "@session 1\nSELECT\nA FROM T AS OF SCN 1;\nSELECT {",
         2,
         ScriptKind::NotBuilt,
     ),
     (
-        "@setup\nCREATE TABLE T (A NUMBER);\nCREATE TABLE U (A NUMBER);\n@end\n",
+        "@setup\n@session 1\nDELETE FROM T;\n@order 1\n@end\n",
         3,
         ScriptKind::NotBuilt,
     ),
     (
-        "@setup\nCREATE TABLE T (A NUMBER);\nSELECT\nCOUNT(*) FROM T;\nSELECT {",
+        "@setup\nDROP MATERIALIZED VIEW V;\nEXECUTE DBMS_MVIEW.REFRESH('V', 'F');\n",
         3,
         ScriptKind::NotBuilt,
+    ),
+    (
+        "@setup\nCREATE MATERIALIZED VIEW V REFRESH FAST AS SELECT A FROM T;\n",
+        2,
+        ScriptKind::NotBuilt,
+    ),
+    ("@session 2\nSHOW LOG T;\n@end\n", 2, ScriptKind::NotBuilt),
+    ("@session 1\n@session 1\n", 2, ScriptKind::SessionNumber),
+    (
+        "@session 1\nSHOW VIEW V;\n@order 1 1\n",
+        3,
+        ScriptKind::OrderTooLong,
     ),
 ];
 

@@ -1,13 +1,15 @@
-ghost use Rattle.std.specs.Prelude.{◌≡◌, ◌<◌, ◌≤◌, Err, Some, IfOk, IfSome, IsErrOf, OnOk, false, length, true};
+ghost use Rattle.std.specs.Prelude.{◌≡◌, ◌<◌, ◌≤◌, Err, Some, IfOk, IfSome, IsErrOf, OnOk, false, length};
 ghost use Rattle.std.specs.Io.KnownBytes.{IsAtEnd};
-ghost use Rattle.def_built.specs.Form.{built_script, script_is_built};
+ghost use Rattle.def_built.specs.Form.{built_script};
 ghost use Rattle.wh_io.specs.Causes.{Rose};
 ghost use Rattle.wh_top.specs.Endings.{IfBad};
+ghost use Rattle.wh_top.specs.Running.{IsRunnable};
 ghost use Rattle.wh_top.specs.Top.{most_bytes, script_read};
 
 use std::alloc::Global;
 use wh_base::statements::{BadScript, Script};
 use wh_io::{ReadFault, Source, read_all};
+use wh_read_law::laws::{a_script_asks_what_its_texts_read_as, sections_ascend};
 use wh_script::fault::ScriptFault;
 use wh_script::script::read_script;
 
@@ -31,7 +33,7 @@ const MOST_BYTES: usize = 8388608;
 pub fn read_input<S: Source>(alloc: Global, source: &mut S) -> Result<Script, InputFault>
     ensures script { IfOk result (λ script. IfSome (S.left source.old) (λ bytes. script_read bytes ≡ Some script)) }
     ensures short { IfOk result (λ script. IfSome (S.left source.old) (λ bytes. length bytes ≤ most_bytes)) }
-    ensures built { IfOk result (λ script. script_is_built script ≡ true) }
+    ensures runnable { IfOk result (λ script. IsRunnable script) }
     ensures end { OnOk result (IsAtEnd (S.left source.new)) }
     ensures failed { IsErrOf result InputFault.Failed → Rose (S.faults source.old) (S.faults source.new) }
     ensures too_long { IsErrOf result InputFault.TooLong → IfSome (S.left source.old) (λ bytes. most_bytes < length bytes) }
@@ -44,6 +46,9 @@ pub fn read_input<S: Source>(alloc: Global, source: &mut S) -> Result<Script, In
         Err(ReadFault::Failed) => return Err(InputFault::Failed),
         Err(ReadFault::TooLong) => return Err(InputFault::TooLong),
     };
+    // The laws of what is read: they do nothing, and say that the script can be run.
+    a_script_asks_what_its_texts_read_as();
+    sections_ascend();
     match read_script(alloc, bytes.as_slice(), false) {
         Ok(read) => Ok(read.script),
         Err(ScriptFault::Memory) => Err(InputFault::Memory),

@@ -5,7 +5,7 @@
 mod faults;
 mod input;
 mod output;
-mod setup;
+mod running;
 #[cfg(test)]
 mod tests;
 mod top;

@@ -1,70 +1,51 @@
-ghost use Rattle.std.specs.Prelude.{◌≡◌, ◌+◌, ◌++◌, ◌≤◌, ◌^◌, [], ◌∷◌, Some, All, IfOk, IfSome, IsNone, OnOk, length, slice_index, slice_set, suc, true, ℕ};
-ghost use Rattle.def_built.specs.Form.{no_section, script_is_built};
-ghost use Rattle.def_transcript.specs.Texts.{journal_line, lines_text};
-ghost use Rattle.wh_top.specs.Top.{IsOfSetup, output_of, reads_in};
+ghost use Rattle.std.specs.Prelude.{◌≡◌, ◌≤◌, ◌^◌, Some, All, IfOk, OnOk, flat_map, length};
+ghost use Rattle.wh_top.specs.Running.{IsRunnable};
+ghost use Rattle.wh_top.specs.Top.{Counted, output_of};
 
-use crate::setup::run;
+use crate::running::{sessions_of, take_parts};
 use std::alloc::{AllocError, Global};
+use std::snapshot::Snapshot;
 use wh_base::reads::Reads;
-use wh_base::seq::Seq;
-use wh_base::shared::Shared;
-use wh_base::statements::{Command, Entry, Script};
+use wh_base::statements::Script;
+use wh_order::order_of;
 use wh_render::push_journal;
-
-/// The commands of the setup, where the script has one.
-#[tactic(auto, using(crate::proofs::Outputs::sections))]
-fn setup_commands(script: Script) -> Option<Seq<Shared<Command>>>
-    requires { script_is_built script ≡ true }
-    ensures some { IfSome result (λ commands. IsOfSetup script commands) }
-    ensures none { IsNone result → script ≡ no_section }
-{
-    let mut sections = script.sections.into_vec();
-    match sections.pop() {
-        Some(setup) => Some(setup.commands),
-        None => None,
-    }
-}
-
-/// Runs the script in its own order, and writes all replies behind the text in `out`: the transcript but for its last
-/// line. Gives the journal that this line tells. An error says that memory ran out.
-///
-/// `reads` rises by the base rows that the replies say were read.
-#[tactic(auto, using(crate::proofs::Outputs::sections))]
-fn push_replies<L>(
-    alloc: Global,
-    script: Script,
-    out: &mut Vec<u8>,
-    reads: &mut Reads<L>,
-) -> Result<Seq<Entry>, AllocError>
-    requires built { script_is_built script ≡ true }
-    requires room { reads.old ≤ 2 ^ 62 }
-    ensures output { IfOk result (λ journal. out.new.items ++ lines_text (journal_line journal ∷ []) ≡ out.old.items ++ output_of (Some script)) }
-    ensures raised { OnOk result (reads.new ≡ reads.old + reads_in (Some script) 0) }
-    ensures others { OnOk result ((n : ℕ) → reads_in (Some script) (suc n) ≡ 0) }
-{
-    match setup_commands(script) {
-        Some(commands) => run(alloc, commands, out, reads),
-        None => Ok(Seq::new(alloc)),
-    }
-}
+use wh_session::Session;
 
 /// The transcript of a script that is run in its own order. An error says that memory ran out.
 ///
-/// The first counter rises by the base rows that the replies say were read.
+/// The counter of each session rises by the base rows that the replies to it say were read.
 pub fn output<L>(
     alloc: Global,
     script: Script,
     reads: &mut [Reads<L>],
 ) -> Result<Vec<u8>, AllocError>
-    requires built { script_is_built script ≡ true }
+    requires runnable { IsRunnable script }
     requires counters { length reads.old ≡ 65 }
     requires room { All (λ n. n ≤ 2 ^ 62) reads.old }
     ensures output { IfOk result (λ text. text.items ≡ output_of (Some script)) }
-    ensures raised { OnOk result (reads.new ≡ slice_set reads.old 0 (slice_index reads.old 0 + reads_in (Some script) 0)) }
-    ensures others { OnOk result ((n : ℕ) → reads_in (Some script) (suc n) ≡ 0) }
+    ensures counted { OnOk result (Counted reads.old reads.new (Some script)) }
 {
-    let mut out = Vec::new(alloc);
-    let journal = push_replies(alloc, script, &mut out, &mut reads[0])?;
-    push_journal(&mut out, journal.as_slice())?;
-    Ok(out)
+    let journal = order_of(alloc, &script)?;
+    let whole = Snapshot::of(&script);
+    let mut sessions = sessions_of(alloc, script)?;
+    take_parts(alloc, whole, sessions.as_mut_slice(), &journal, reads)?;
+    let mut text = texts_of(alloc, sessions)?;
+    push_journal(&mut text, journal.as_slice())?;
+    Ok(text)
+}
+
+/// The texts of the sessions' replies, one behind the other. That of the first session is not copied.
+fn texts_of<L>(alloc: Global, sessions: Vec<Session<L>>) -> Result<Vec<u8>, AllocError>
+    ensures { IfOk result (λ text. text.items ≡ flat_map (λ r. r.text) sessions.items) }
+{
+    let mut text = Vec::new(alloc);
+    for session in sessions {
+        let own = session.into_text();
+        if text.is_empty() {
+            text = own;
+        } else {
+            text.extend_from_slice(own.as_slice())?;
+        }
+    }
+    Ok(text)
 }

@@ -40,8 +40,98 @@ const TOTALS: &str =
 const REFUSED: &str =
     "@setup\nCREATE TABLE T (G VARCHAR2(4), A NUMBER);\nINSERT INTO X VALUES (1);\nINSERT INTO T VALUES ('P');\nSELECT B, COUNT(*) FROM T GROUP BY B;\n@end\n";
 
+const FIRST_REFUSED: &str =
+    "@setup\nINSERT INTO T VALUES (1);\nCREATE TABLE T (A NUMBER(16));\n@end\n";
+
 const TOO_LONG: &str =
     "@setup\nCREATE TABLE N (A NUMBER, B NUMBER);\nINSERT INTO N VALUES (999999999999999, 999999999999999);\nINSERT INTO N VALUES (1000000000000000, 1);\nSELECT A, SUM(B) FROM N GROUP BY A;\nSELECT B, COUNT(*) FROM N GROUP BY B;\n@end\n";
+
+// Whether the script is done with this transcript, and the setup and the first sessions have read so many rows, and no
+// other session any.
+fn is_run(alloc: Global, script: &str, written: &str, rows: &[u64]) -> Result<bool, AllocError> {
+    let mut reads = counters(alloc)?;
+    let bytes = Vec::from_slice(alloc, script.as_bytes())?;
+    let mut source = MemorySource::new(bytes, 64, Vec::new(alloc));
+    let mut sink = MemorySink::new(alloc, 64, Vec::new(alloc));
+    let order = words(alloc, &["order"])?;
+    let status = top_order(alloc, &order, &mut source, &mut sink, reads.as_mut_slice());
+    Ok(
+        status == Status::Done
+            && is_same(sink.bytes(), written.as_bytes())
+            && have_read(reads.as_slice(), rows),
+    )
+}
+
+fn is_same(found: &[u8], wanted: &[u8]) -> bool {
+    found == wanted
+}
+
+fn have_read(reads: &[Reads<Mark>], rows: &[u64]) -> bool {
+    for (counter, wanted) in reads.iter().zip(rows) {
+        if counter.count() != *wanted {
+            return false;
+        }
+    }
+    for counter in reads.iter().skip(rows.len()) {
+        if counter.count() != 0 {
+            return false;
+        }
+    }
+    true
+}
+
+// Scripts with their transcripts, and how many rows the setup and each of three sessions have read.
+const SESSIONS: &[(&str, &str, [u64; 4])] = &[
+    (
+        "@session 3\nCREATE TABLE T (A NUMBER);\n@session 64\nINSERT INTO T VALUES (7);\n@order 64 3\n@end\n",
+        "3.1 DONE SCN 1 READ 0\n64.1 REFUSED MV-02 AT 1 T READ 0\njournal 64.1.1 3.1.1\n",
+        [0, 0, 0, 0],
+    ),
+    // A refresh computes what was there at its begin, and a query after it what is there now.
+    (
+        "@setup\nCREATE TABLE T (G VARCHAR2(4), A NUMBER);\nINSERT INTO T VALUES ('P',1);\nCREATE MATERIALIZED VIEW V ENABLE QUERY REWRITE AS SELECT G, SUM(A), COUNT(*) FROM T GROUP BY G;\nINSERT INTO T VALUES ('P',2);\n@session 1\nEXECUTE DBMS_MVIEW.REFRESH('V', 'C');\nSELECT G, SUM(A), COUNT(*) FROM T GROUP BY G;\n@session 2\nINSERT INTO T VALUES ('P',4);\n@order 1 2 1 1\n@end\n",
+        "0.1 DONE SCN 1 READ 0\n0.2 COMMITTED SCN 2 ROWS 1 READ 0 VIEWS 0\n0.3 DONE SCN 2 READ 1\n0.4 COMMITTED SCN 3 ROWS 1 READ 0 VIEWS 0\n1.1 REFRESHED COMPLETE SCN 3 READ 2 HOLDS 1\n1.2 ANSWER SCN 4 PLAN BASE READ 3 ROWS 1\nP|7|3\n2.1 COMMITTED SCN 4 ROWS 1 READ 0 VIEWS 0\njournal 0.1.1 0.2.1 0.3.1 0.4.1 1.1.1 2.1.1 1.1.2 1.2.1\n",
+        [1, 5, 0, 0],
+    ),
+    (
+        "@setup\nCREATE TABLE T (G VARCHAR2(4), A NUMBER);\nINSERT INTO T VALUES ('P',1);\nCREATE MATERIALIZED VIEW V ENABLE QUERY REWRITE AS SELECT G, SUM(A), COUNT(*) FROM T GROUP BY G;\nINSERT INTO T VALUES ('P',2);\n@session 1\nEXECUTE DBMS_MVIEW.REFRESH('V', 'C');\nSELECT G, SUM(A), COUNT(*) FROM T GROUP BY G;\nSHOW VIEW V;\n@session 2\nINSERT INTO T VALUES ('P',4);\n@order 1 2 1 1 1\n@end\n",
+        "0.1 DONE SCN 1 READ 0\n0.2 COMMITTED SCN 2 ROWS 1 READ 0 VIEWS 0\n0.3 DONE SCN 2 READ 1\n0.4 COMMITTED SCN 3 ROWS 1 READ 0 VIEWS 0\n1.1 REFRESHED COMPLETE SCN 3 READ 2 HOLDS 1\n1.2 ANSWER SCN 4 PLAN BASE READ 3 ROWS 1\nP|7|3\n1.3 VIEW V POINT 3 STATE STALE REGISTERED YES SUSPENDED NO READ 0 INTERVALS 0 ROWS 1\nP|3|2\n2.1 COMMITTED SCN 4 ROWS 1 READ 0 VIEWS 0\njournal 0.1.1 0.2.1 0.3.1 0.4.1 1.1.1 2.1.1 1.1.2 1.2.1 1.3.1\n",
+        [1, 5, 0, 0],
+    ),
+    // Of two refreshes that overlap the one that began later is installed later, and refused.
+    (
+        "@setup\nCREATE TABLE T (G VARCHAR2(4), A NUMBER);\nINSERT INTO T VALUES ('P',1);\nCREATE MATERIALIZED VIEW V ENABLE QUERY REWRITE AS SELECT G, SUM(A), COUNT(*) FROM T GROUP BY G;\nINSERT INTO T VALUES ('P',2);\nINSERT INTO T VALUES ('P',3);\n@session 1\nEXECUTE DBMS_MVIEW.REFRESH('V', 'C');\n@session 2\nEXECUTE DBMS_MVIEW.REFRESH('V', 'C');\n@session 3\nINSERT INTO T VALUES ('P',5);\nINSERT INTO T VALUES ('P',6);\n@order 1 3 3 2 1 2\n@end\n",
+        "0.1 DONE SCN 1 READ 0\n0.2 COMMITTED SCN 2 ROWS 1 READ 0 VIEWS 0\n0.3 DONE SCN 2 READ 1\n0.4 COMMITTED SCN 3 ROWS 1 READ 0 VIEWS 0\n0.5 COMMITTED SCN 4 ROWS 1 READ 0 VIEWS 0\n1.1 REFRESHED COMPLETE SCN 4 READ 3 HOLDS 1\n2.1 REFUSED MV-24 V 2 4 READ 5\n3.1 COMMITTED SCN 5 ROWS 1 READ 0 VIEWS 0\n3.2 COMMITTED SCN 6 ROWS 1 READ 0 VIEWS 0\njournal 0.1.1 0.2.1 0.3.1 0.4.1 0.5.1 1.1.1 3.1.1 3.2.1 2.1.1 1.1.2 2.1.2\n",
+        [1, 3, 5, 0],
+    ),
+    (
+        "@setup\nCREATE TABLE T (G VARCHAR2(4), A NUMBER);\nCREATE MATERIALIZED VIEW D BUILD DEFERRED AS SELECT G, SUM(A), COUNT(A), COUNT(*) FROM T GROUP BY G;\nSHOW VIEW D;\nEXECUTE DBMS_MVIEW.REFRESH('X', 'C');\n@end\n",
+        "0.1 DONE SCN 1 READ 0\n0.2 DONE SCN 1 READ 0\n0.3 VIEW D POINT - STATE UNBUILT REGISTERED NO SUSPENDED NO READ 0 INTERVALS 0 ROWS 0\n0.4 REFUSED MV-02 X READ 0\njournal 0.1.1 0.2.1 0.3.1 0.4.1 0.4.2\n",
+        [0, 0, 0, 0],
+    ),
+    // A query with the text of a view is answered from it.
+    (
+        "@setup\nCREATE TABLE T (G VARCHAR2(4), A NUMBER);\nINSERT INTO T VALUES ('P',10),('P',5),('Q',NULL);\nCREATE MATERIALIZED VIEW V ENABLE QUERY REWRITE AS SELECT G, SUM(A), COUNT(A), COUNT(*) FROM T GROUP BY G;\nselect g ,sum(a), count(a),count(*)  from t group by g;\n@end\n",
+        "0.1 DONE SCN 1 READ 0\n0.2 COMMITTED SCN 2 ROWS 3 READ 0 VIEWS 0\n0.3 DONE SCN 2 READ 3\n0.4 ANSWER SCN 2 PLAN FULL V@2 READ 0 ROWS 2\nP|15|2|2\nQ||0|1\njournal 0.1.1 0.2.1 0.3.1 0.4.1\n",
+        [3, 0, 0, 0],
+    ),
+    (
+        "@setup\nCREATE TABLE T (G VARCHAR2(4), A NUMBER);\nCREATE MATERIALIZED VIEW V ENABLE QUERY REWRITE AS SELECT G, SUM(A), COUNT(A), COUNT(*) FROM T GROUP BY G;\nSELECT SUM(A), COUNT(*) FROM T;\n@end\n",
+        "0.1 DONE SCN 1 READ 0\n0.2 DONE SCN 1 READ 0\n0.3 ANSWER SCN 1 PLAN BASE READ 0 ROWS 1\n|0\njournal 0.1.1 0.2.1 0.3.1\n",
+        [0, 0, 0, 0],
+    ),
+];
+
+/// Scripts with sessions and views.
+#[test]
+fn sessions(rt: HostRuntime) -> Result<(), Fail> {
+    let alloc = rt.alloc();
+    for (script, written, rows) in SESSIONS {
+        let is = is_run(alloc, script, written, rows)?;
+        assert!(rt; is, "{script}");
+    }
+    Ok(())
+}
 
 /// Scripts in pieces of 7 bytes, their transcripts in pieces of 4. Each line has the numbers of the read and of the
 /// write that fail, 0 for none, and at last how many rows the setup has read.
@@ -77,7 +167,15 @@ fn scripts(rt: HostRuntime) -> Result<(), Fail> {
             "0.1 DONE SCN 1 READ 0\n0.2 COMMITTED SCN 2 ROWS 1 READ 0 VIEWS 0\n0.3 REFUSED MV-04 AT 1 N A READ 0\n0.4 ANSWER SCN 2 PLAN BASE READ 1 ROWS 1\n999999999999999|999999999999999\n0.5 ANSWER SCN 2 PLAN BASE READ 1 ROWS 1\n999999999999999|1\njournal 0.1.1 0.2.1 0.3.1 0.4.1 0.5.1\n",
             2,
         ),
-        ("@setup\n@end", 0, 0, Status::Done, "journal\n", 0),
+        ("@setup\n@order\n@end", 0, 0, Status::Done, "journal\n", 0),
+        (
+            FIRST_REFUSED,
+            0,
+            0,
+            Status::Done,
+            "0.1 REFUSED MV-02 AT 1 T READ 0\n0.2 REFUSED MV-04 T A READ 0\njournal 0.1.1 0.2.1\n",
+            0,
+        ),
     ] {
         let mut reads = counters(alloc)?;
         let bytes = Vec::from_slice(alloc, script.as_bytes())?;

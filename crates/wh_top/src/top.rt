@@ -1,9 +1,9 @@
-ghost use Rattle.std.specs.Prelude.{◌≡◌, ◌++◌, ◌+◌, ◌∷◌, ◌<◌, ◌≤◌, ◌^◌, ◌↔◌, [], length, Err, None, Some, IfOk, OnOk, IfSome, IsSome, IsTrue, All, true, false, slice_set};
+ghost use Rattle.std.specs.Prelude.{◌≡◌, ◌<◌, ◌≤◌, ◌^◌, ◌↔◌, length, Err, IfSome, IsSome, All, false};
 ghost use Rattle.std.specs.Io.KnownBytes.{Appends, IsAtEnd};
-ghost use Rattle.def_built.specs.Form.{built_script, script_is_built};
+ghost use Rattle.def_built.specs.Form.{built_script};
 ghost use Rattle.wh_io.specs.Causes.{Rose, AppendsPart};
 ghost use Rattle.wh_top.specs.Endings.{IfBadScript, IsOfBytes, IsSilent, IsUnread, IsWritten};
-ghost use Rattle.wh_top.specs.Top.{Counted, is_order, most_bytes, output_of, reads_in, script_read};
+ghost use Rattle.wh_top.specs.Top.{Counted, is_order, most_bytes, output_of, script_read};
 
 use crate::input::{InputFault, read_input};
 use crate::output::output;

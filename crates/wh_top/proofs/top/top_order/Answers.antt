@@ -1,13 +1,8 @@
-use Rattle.std.proofs.Common.{Some}
-use Rattle.wh_top.proofs.Outputs.{counted_by, counted_where}
+use Rattle.wh_top.proofs.Outputs.{counted_where}
 use Rattle.wh_top.proofs.top.top_order.Goals as goal
 
 pub returns-in-Ok-write_all-clause-counted : goal.returns-in-Ok-write_all-clause-counted
-returns-in-Ok-write_all-clause-counted g c written =
-    let script = c.in-Ok.script in
-    counted_where (g.S.Source.left c.args.source.now) script c.args.reads.now c.output.new.reads c.in-Ok.ensures.script (counted_by (Some script) c.args.reads.now c.output.new.reads c.requires.counters c.in-Ok-output.ensures.raised c.in-Ok-output.ensures.others)
+returns-in-Ok-write_all-clause-counted g c written = counted_where (g.S.Source.left c.args.source.now) c.in-Ok.script c.args.reads.now c.output.new.reads c.in-Ok.ensures.script c.in-Ok-output.ensures.counted
 
 pub returns-clause-counted : goal.returns-clause-counted
-returns-clause-counted g c written =
-    let script = c.in-Ok.script in
-    counted_where (g.S.Source.left c.args.source.now) script c.args.reads.now c.output.new.reads c.in-Ok.ensures.script (counted_by (Some script) c.args.reads.now c.output.new.reads c.requires.counters c.in-Ok-output.ensures.raised c.in-Ok-output.ensures.others)
+returns-clause-counted g c written = counted_where (g.S.Source.left c.args.source.now) c.in-Ok.script c.args.reads.now c.output.new.reads c.in-Ok.ensures.script c.in-Ok-output.ensures.counted

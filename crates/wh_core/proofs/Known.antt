@@ -1,0 +1,53 @@
+-- The laws of the crates below that the steps rest on.
+use Rattle.std.proofs.Common.{◌≡◌, ◌∷◌, ◌++◌, List, [], ℕ}
+use Rattle.wh_base.specs.declared.statements.Event.{Event}
+use Rattle.def_journal.specs.Journal.{state_after, state_of}
+use Rattle.def_journal.specs.State.{Session, State, session_of, with_session}
+use Rattle.wh_image.proofs.Lookup as looking
+use Rattle.wh_image.proofs.Tabling as tabling
+use Rattle.wh_image.proofs.Viewing as viewing
+use Rattle.wh_image.specs.Laws.{Lookups, TableChanges, ViewChanges}
+use Rattle.wh_trace.proofs.Growing as growing
+use Rattle.wh_trace.proofs.Installing as installing
+use Rattle.wh_trace.proofs.Pointing as pointing
+use Rattle.wh_trace.proofs.Preceding as preceding
+use Rattle.wh_trace.proofs.Seated as seated
+use Rattle.wh_trace.proofs.Traces as traces
+use Rattle.wh_trace.proofs.Versions as versions
+use Rattle.wh_trace.specs.Laws.{ChangeLaws, ImageLaws, InstallLaws, SessionLaws, VersionLaws, ViewLaws}
+
+pub lookups : Lookups
+lookups = looking.lookups
+
+pub view_changes : ViewChanges
+view_changes = viewing.view_changes
+
+pub table_changes : TableChanges
+table_changes = tabling.table_changes
+
+pub change_laws : ChangeLaws
+change_laws = growing.change_laws
+
+pub image_laws : ImageLaws
+image_laws = preceding.image_laws
+
+pub install_laws : InstallLaws
+install_laws = installing.install_laws
+
+pub version_laws : VersionLaws
+version_laws = versions.version_laws
+
+pub view_laws : ViewLaws
+view_laws = pointing.view_laws
+
+pub state_push : (trace : List Event) (e : Event) → state_of (trace ++ e ∷ []) ≡ state_after (state_of trace) e
+state_push = traces.state_push
+
+pub session_laws : SessionLaws
+session_laws = traces.session_laws
+
+pub own_number : (s : State) (n : ℕ) → (session_of s n).number ≡ n
+own_number = seated.own_number
+
+pub put_own : (s : State) (y : Session) (n : ℕ) → y.number ≡ n → session_of (with_session s y) n ≡ y
+put_own = seated.put_own

@@ -1,0 +1,32 @@
+-- What a core keeps of its trace.
+use Rattle.std.specs.List.{All}
+use Rattle.std.specs.Prelude.{◌≡◌, ◌≤◌, List, count_by, false, is_some, length, true, ℕ}
+use Rattle.wh_base.specs.declared.statements.Event.{Event}
+use Rattle.def_built.specs.Commands.{commands_are_built}
+use Rattle.def_history.specs.History.{kept_versions}
+use Rattle.def_journal.specs.Journal.{commands_of, state_of}
+use Rattle.def_journal.specs.State.{Session}
+use Rattle.wh_answer.specs.Over.{IsImageOf}
+use Rattle.wh_check.specs.Effects.{IsPlainDef}
+use Rattle.wh_table.specs.Stored.{Stored}
+use Rattle.wh_trace.specs.Reached.{catalog_of}
+use Rattle.wh_view.specs.Kept.{AllKept}
+
+-- how many sessions have a refresh that has begun and isn't installed
+abbrev pub begun_count : List Session → ℕ
+begun_count sessions = count_by (λ x. is_some x.begun) sessions
+
+-- The image is the catalog that the trace leaves. The commands are of forms that are built, and so there are no keys and no
+-- views that are refreshed at a commit. So many row versions are kept, and there is room for the installs of all refreshes
+-- that have begun.
+pub record IsCore (trace : List Event) (scn : ℕ) (tables : List Stored) (views : AllKept) (kept begun room : ℕ) : Type 0 where
+  pub image : IsImageOf trace scn tables views
+  pub built : commands_are_built (commands_of trace) ≡ true
+  pub plain : All (λ s. IsPlainDef s.def) tables
+  pub on_demand : All (λ k. k.view.def.on_commit ≡ false) views.views
+  pub counted : kept ≡ kept_versions (catalog_of trace)
+  pub enough : begun_count (state_of trace).sessions ≤ begun
+  pub fits : begun ≤ room
+  -- each event raises the SCN and the number of views by one at the most
+  pub scn_within : scn ≤ length trace
+  pub made_within : views.made ≤ length trace

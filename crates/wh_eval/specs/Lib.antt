@@ -1,4 +1,0 @@
-pub mod Listed
-pub mod Form
-pub mod Tallies
-pub mod Blocks

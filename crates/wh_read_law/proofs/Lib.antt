@@ -1,0 +1,10 @@
+mod Places
+mod Queries
+mod Kept
+mod Spelled
+mod Elements
+mod Rules
+mod Statements
+mod Walk
+mod Scripts
+mod Sections

@@ -1,0 +1,11 @@
+use Rattle.wh_session.proofs.Replying.{select_reply}
+use Rattle.wh_session.proofs.snapshots.select_part.Goals as goal
+
+-- the session is under ENFORCED with rewrite enabled, so its reply is the one that is selected
+pub returns-clause-replied : goal.returns-clause-replied
+returns-clause-replied g c =
+    record {
+      reply = select_reply c.plain_sessions.ensures c.args.core.now c.args.id c.built.ensures c.selects_agree.ensures c.args.command.now c.args.statement.now c.args.asked.now c.in_ok-reply.reply
+          c.requires.command c.requires.statement (c.in_ok-reply.ensures.reply c.args.core.now c.in_ok-image.ensures.image);
+      read_is = c.in_ok-reply.ensures.raised;
+    }

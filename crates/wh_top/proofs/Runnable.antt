@@ -1,0 +1,45 @@
+-- A script that is read can be run.
+use Rattle.std.proofs.Common.{◌≡◌, arith, ℕ, suc, zero, ◌<◌, ◌≤◌, ◌==◌, ◌||◌, true, List, [], ◌∷◌, length, map, get_or}
+use Rattle.std.specs.List.{All, AllByRecursion, AllPairs, list_all}
+use Rattle.std.proofs.lemmas.Bool.{and_parts}
+use Rattle.std.proofs.lemmas.List.Elements.{All-from_recursion}
+use Rattle.def_built.specs.Commands.{commands_are_built}
+use Rattle.def_built.specs.Form.{script_is_built, section_is_built, sections_are_built}
+use Rattle.def_built.specs.Forms.{is_built}
+use Rattle.def_built.specs.declared.forms.Form.TheVariants as forms
+use Rattle.wh_base.specs.Lists.{is_empty}
+use Rattle.wh_base.specs.declared.statements.Script.{Script}
+use Rattle.wh_base.specs.declared.statements.Section.{Section}
+use Rattle.wh_view_law.specs.Read.{IsRead}
+use Rattle.wh_top.specs.Running.{IsRunnable, most_sessions}
+use Rattle.wh_top.proofs.Apart.{once_from_ascent}
+
+one_built : (s : Section) → section_is_built s ≡ true → commands_are_built s.commands ≡ true
+one_built s h = (and_parts ((s.session == 0) || is_built forms.Session) (commands_are_built s.commands) h).1
+
+each_built : (ss : List Section) → list_all section_is_built ss ≡ true → AllByRecursion (λ s. commands_are_built s.commands ≡ true) ss
+each_built [] h = tt
+each_built (s ∷ ss) h =
+    let parts = and_parts (section_is_built s) (list_all section_is_built ss) h in
+    (one_built s parts.0, each_built ss parts.1)
+
+all_built : (ss : List Section) → sections_are_built ss ≡ true → AllByRecursion (λ s. commands_are_built s.commands ≡ true) ss
+all_built [] h = tt
+all_built (s ∷ []) h = (one_built s h, tt)
+all_built (s ∷ t ∷ more) h = each_built (s ∷ t ∷ more) (and_parts (is_built forms.Session) (list_all section_is_built (s ∷ t ∷ more)) h).1
+
+numbers_within : (ss : List Section) (k d : ℕ) → k < length (map (λ s. s.session) ss) → All (λ s. s.session ≤ most_sessions) ss → get_or (map (λ s. s.session) ss) k d ≤ most_sessions
+numbers_within [] k d within h = absurd (omega (arith, within))
+numbers_within (s ∷ ss) zero d within h = h 0 s (omega arith)
+numbers_within (s ∷ ss) (suc k) d within h = numbers_within ss k d (omega (arith, within)) (λ j t inside. h (suc j) t (omega (arith, inside)))
+
+pub runnable : (script : Script) → script_is_built script ≡ true → All (λ s. All IsRead s.commands) script.sections → AllPairs (λ s t. s.session < t.session) script.sections → All (λ s. s.session ≤ most_sessions) script.sections → IsRunnable script
+runnable script built read ascend low =
+    let parts = and_parts (sections_are_built script.sections) (is_empty script.order || is_built forms.Order) built in
+    let commands : All (λ s. commands_are_built s.commands ≡ true) script.sections = All-from_recursion (λ s. commands_are_built s.commands ≡ true) script.sections (all_built script.sections parts.0) in
+    record {
+      built = built;
+      sections = λ k d within. record { built = commands k d within; read = read k d within };
+      differ = once_from_ascent script ascend;
+      within = λ k d within. numbers_within script.sections k d within low;
+    }

@@ -1,0 +1,79 @@
+ghost use Rattle.std.specs.Prelude.{◌≡◌, ◌≤◌, ◌<◌, ◌^◌, All, IfOk, OnOk, length, map, slice_index, true};
+ghost use Rattle.def_journal.specs.Journal.{is_legal};
+ghost use Rattle.wh_session.specs.Run.{begun};
+ghost use Rattle.wh_top.specs.Running.{AreAsFar, CountedSoFar, HasNext, IsRunnable, IsTaken, place_of};
+
+use std::alloc::{AllocError, Global};
+use std::snapshot::Snapshot;
+use wh_base::reads::Reads;
+use wh_base::seq::Seq;
+use wh_base::statements::{Entry, Script};
+use wh_core::Core;
+use wh_session::Session;
+
+/// The sessions of a script, each with nothing done. An error says that memory ran out.
+pub fn sessions_of<L>(alloc: Global, script: Script) -> Result<Vec<Session<L>>, AllocError>
+    requires { IsRunnable script }
+    ensures { IfOk result (λ sessions. sessions.items ≡ map begun script.sections) }
+{
+    let mut sessions = Vec::new(alloc);
+    for section in script.sections.into_vec() {
+        sessions.push(Session::new(alloc, section))?;
+    }
+    Ok(sessions)
+}
+
+/// Takes the parts of a legal journal one after another, from the empty catalog on. An error says that memory ran out.
+///
+/// A part costs a look at each session.
+pub fn take_parts<L>(
+    alloc: Global,
+    script: Snapshot<Script>,
+    sessions: &mut [Session<L>],
+    journal: &Seq<Entry>,
+    reads: &mut [Reads<L>],
+) -> Result<(), AllocError>
+    requires runnable { IsRunnable script.value }
+    requires legal { is_legal script.value journal.now ≡ true }
+    requires sessions { sessions.old ≡ map begun script.value.sections }
+    requires counters { length reads.old ≡ 65 }
+    requires room { All (λ n. n ≤ 2 ^ 62) reads.old }
+    ensures far { OnOk result (AreAsFar script.value journal.now script.value.sections sessions.new) }
+    ensures counted { OnOk result (CountedSoFar script.value journal.now sessions.new reads.old reads.new) }
+{
+    let mut core = Core::new(alloc)?;
+    for entry in journal.as_slice() {
+        take_part(alloc, &mut core, sessions, entry.session, reads)?;
+    }
+    Ok(())
+}
+
+/// Takes the next part of the session with this number. An error says that memory ran out.
+fn take_part<L>(
+    alloc: Global,
+    core: &mut Core<L>,
+    sessions: &mut [Session<L>],
+    number: u32,
+    reads: &mut [Reads<L>],
+) -> Result<(), AllocError>
+    requires next { HasNext number sessions.old core.old }
+    requires counter { number < length reads.old }
+    requires room { slice_index reads.old number ≤ 2 ^ 63 }
+    ensures { OnOk result (IsTaken number sessions.old sessions.new core.old core.new reads.old reads.new) }
+{
+    let place = place_of(sessions, number);
+    sessions[place].run_step(alloc, core, &mut reads[number as usize])?;
+    Ok(())
+}
+
+/// The place of the session with this number, counted from 0; how many sessions there are where none has it.
+fn place_of<L>(sessions: &[Session<L>], number: u32) -> usize
+    ensures { result ≡ place_of number sessions.now }
+{
+    for (place, session) in sessions.iter().enumerate() {
+        if session.number() == number {
+            return place;
+        }
+    }
+    sessions.len()
+}
