@@ -27,7 +27,8 @@ pub enum Sort {
     Any,
 }
 
-fn agrees(a: Sort, b: Sort) -> bool
+/// Whether the two may be compared.
+pub fn agrees(a: Sort, b: Sort) -> bool
     ensures { result ≡ agrees (meant a) (meant b) }
 {
     match (a, b) {
@@ -36,8 +37,8 @@ fn agrees(a: Sort, b: Sort) -> bool
     }
 }
 
-/// The kind of a column of a table; ROWID and PMARKER are numbers.
-fn part_sort(def: &TableDef, part: ColPart) -> Sort
+/// The kind of a column of a table; ROWID and PMARKER are numbers, and what is no column agrees with everything.
+pub fn part_sort(def: &TableDef, part: ColPart) -> Sort
     ensures { meant result ≡ part_sort def.now part }
 {
     match part {
@@ -66,7 +67,7 @@ pub fn column_sort(defs: &[TableDef], column: ColRef) -> Sort
 }
 
 /// The kind of a literal: a quoted text of no bytes is NULL.
-fn literal_sort(literal: &Literal) -> Sort
+pub fn literal_sort(literal: &Literal) -> Sort
     ensures { meant result ≡ literal_sort literal.now }
 {
     match literal {
@@ -104,8 +105,8 @@ fn is_summed(defs: &[TableDef], column: ColRef) -> bool
     matches!(column.part, ColPart::Col(_)) && agrees(column_sort(defs, column), Sort::Number)
 }
 
-/// The name of a column as a refusal prints it.
-fn printed_part(alloc: Global, def: &TableDef, part: ColPart) -> Result<Txt, AllocError>
+/// The name of a column as a refusal prints it, no bytes for what is no column. An error says that memory ran out.
+pub fn printed_part(alloc: Global, def: &TableDef, part: ColPart) -> Result<Txt, AllocError>
     ensures { IfOk result (λ t. t ≡ printed_part def.now part) }
 {
     match part {
@@ -204,8 +205,8 @@ pub fn between_refusal(
     Ok(None)
 }
 
-// Whether one of the literals is of another kind.
-fn any_differs(sort: Sort, literals: &[Literal]) -> bool
+/// Whether one of the literals is of another kind.
+pub fn any_differs(sort: Sort, literals: &[Literal]) -> bool
     ensures { result ≡ list_any (λ l. not (agrees (meant sort) (literal_sort l))) literals.now }
 {
     for literal in literals {

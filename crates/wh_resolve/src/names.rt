@@ -12,7 +12,7 @@ use wh_base::txt::Txt;
 
 /// The place of the column of this name, counted from 0.
 #[tactic(auto, using(crate::proofs::Places::places))]
-fn column_number(def: &TableDef, name: &Txt) -> Option<u32>
+pub fn column_number(def: &TableDef, name: &Txt) -> Option<u32>
     ensures { result ≡ column_number def.now name.now }
 {
     for at in 0..def.columns.len() {
@@ -117,7 +117,7 @@ fn name_text(alloc: Global, name: &ColName) -> Result<Txt, AllocError>
     }
 }
 
-/// That a name is unknown or in two tables.
+/// That a name is unknown or in two tables. An error says that memory ran out.
 pub fn name_refusal(
     alloc: Global,
     sources: &[Source<'_>],

@@ -147,7 +147,8 @@ fn push_condition(
     }
 }
 
-/// The conditions on one column each.
+/// The conditions on one column each: BETWEEN is two, and an equality of two columns, which is a join, none. An error says
+/// that memory ran out, or that there are 2^32 conditions or more.
 pub fn resolved_conditions(
     alloc: Global,
     sources: &[Source<'_>],
@@ -217,8 +218,9 @@ pub fn table_joins(
     Ok(joins)
 }
 
-// The joins that stand in WHERE.
-fn condition_joins(
+/// The joins that stand in WHERE: the equalities of two columns. An error says that memory ran out, or that there are 2^32
+/// joins or more.
+pub fn condition_joins(
     alloc: Global,
     sources: &[Source<'_>],
     conditions: &[RawCondition],

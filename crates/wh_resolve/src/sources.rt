@@ -26,8 +26,8 @@ impl<'a> Model for Source<'a> {
 }
 
 impl<'a> Source<'a> {
-    /// The table with this number as FROM names it.
-    fn new(label: &'a Txt, table: u32, def: &'a TableDef) -> Source<'a>
+    /// The table with this number as FROM names it: its label is its alias, or its name where it has none.
+    pub fn new(label: &'a Txt, table: u32, def: &'a TableDef) -> Source<'a>
         ensures label { result.label ≡ label.now }
         ensures table { result.table ≡ table }
         ensures def { result.def ≡ def.now }

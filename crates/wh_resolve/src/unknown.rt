@@ -16,11 +16,11 @@ use wh_base::replies::Refusal;
 use wh_base::txt::Txt;
 
 /// A part of a query that names columns.
-trait Naming {
+pub trait Naming {
     /// The names in the order of the text.
     ghost names: { Self → List ColName };
 
-    /// That one of the names is unknown or in two tables: the first.
+    /// That one of the names is unknown or in two tables: the first. An error says that memory ran out.
     fn unknown(&self, alloc: Global, sources: &[Source<'_>]) -> Result<Option<Refusal>, AllocError>
         ensures { IfOk result (λ r. r ≡ first_of (name_refusal sources.now) (names self.now)) };
 }
@@ -148,9 +148,9 @@ impl Naming for RawTest {
     }
 }
 
-/// The first name of a list of parts that is unknown or in two tables.
+/// The first name of a list of parts that is unknown or in two tables. An error says that memory ran out.
 #[tactic(auto, using(crate::proofs::Firsts::firsts))]
-fn first_unknown<T: Naming>(
+pub fn first_unknown<T: Naming>(
     alloc: Global,
     sources: &[Source<'_>],
     parts: &[T],

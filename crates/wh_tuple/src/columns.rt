@@ -95,8 +95,8 @@ pub fn expr_cell<'a>(tables: &[u32], tuple: &[TupleRow<'a>], expr: Expr) -> Cell
     }
 }
 
-// Whether the cell equals one of the values, as IN has it.
-fn is_one_of(cell: Cell<'_>, values: &[Value]) -> bool
+/// Whether the cell equals one of the values, as IN has it: NULL equals none.
+pub fn is_one_of(cell: Cell<'_>, values: &[Value]) -> bool
     ensures { result ≡ list_any (is_true_that (cell_value cell.entry) Eq) values.now }
 {
     for value in values {
