@@ -1,6 +1,0 @@
-use Rattle.std.proofs.Common.{◌≡◌, ◌==◌, map, take}
-use Rattle.std.specs.List.{position_from}
-use Rattle.wh_check.proofs.asks.sources.Given as goal
-
-abbrev pub invariant-loop-column : goal.invariant-loop-column
-invariant-loop-column l = l.sources ≡ map (λ c. position_from (λ p. p == c) 0 l.places) (take l.column-index l.column-items)

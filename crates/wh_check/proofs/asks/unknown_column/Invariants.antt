@@ -1,6 +1,0 @@
-use Rattle.std.proofs.Common.{◌≡◌, drop}
-use Rattle.wh_check.specs.Asking.{unknown_in}
-use Rattle.wh_check.proofs.asks.unknown_column.Given as goal
-
-abbrev pub invariant-loop-name : goal.invariant-loop-name
-invariant-loop-name l = unknown_in l.def (drop l.name-index l.names) ≡ unknown_in l.def l.names

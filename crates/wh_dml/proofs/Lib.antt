@@ -1,0 +1,15 @@
+pub mod Places
+pub mod Names
+mod Literals
+mod Refused
+mod Unknown
+mod Twice
+mod Misfits
+mod Comparing
+mod Setting
+mod Placing
+mod Scanned
+mod Shown
+mod Sourcing
+mod Stable
+mod Stated

@@ -1,0 +1,7 @@
+pub mod Asked
+pub mod Asking
+pub mod Changes
+pub mod Changing
+pub mod Picking
+pub mod Placed
+pub mod Setting
