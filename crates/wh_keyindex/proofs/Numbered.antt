@@ -289,6 +289,21 @@ none_counted counts numbers no_counts no_numbers v =
     let none : places_with v fin.empty ≡ 0 = omega (arith, few_with v fin.empty, fin.len-empty nat_cmp Value) in
     ap (λ es. unwrap_or (lookup (eqv v) es) 0) no_counts ∙ sym none ∙ ap (λ es. places_with v (values_of (keys counts) es)) (sym no_numbers)
 
+-- ---- the value of a place
+
+within : (known : List Value) (number : ℕ) → number < length known → slice_get known number ≡ Some (value_at known number)
+within [] number h = absurd (omega arith)
+within (v ∷ known) zero h = refl
+within (v ∷ known) (suc number) h = within known number (omega arith)
+
+pub value_found : {S : Type 0} (known : List Value) (numbers : IndexMap ℕ ℕ S) (place number : ℕ) → AreKnown known numbers → get nat_eq numbers place ≡ Some number
+    → slice_get known number ≡ fin.get (values_of known numbers.entries) place
+value_found known numbers place number are_known is =
+    within known number (are_known place number is) ∙ sym (find_number known numbers.entries place ∙ ap (option_map (value_at known)) is)
+
+pub none_found : {S : Type 0} (known : List Value) (numbers : IndexMap ℕ ℕ S) (place : ℕ) → get nat_eq numbers place ≡ None → None ≡ fin.get (values_of known numbers.entries) place
+none_found known numbers place is = sym (find_number known numbers.entries place ∙ ap (option_map (value_at known)) is)
+
 -- ---- marked places
 
 past_end : (gone : List Bool) (place : ℕ) → nat_lt place (length gone) ≡ false → slice_get gone place ≡ None

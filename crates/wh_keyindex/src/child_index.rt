@@ -1,4 +1,5 @@
-ghost use Rattle.std.specs.Prelude.{◌≡◌, ◌-◌, ◌<◌, ◌≤◌, ◌^◌, IsOk, None, OnErr, OnOk, Some, max};
+ghost use Rattle.std.specs.Prelude.{◌≡◌, ◌-◌, ◌<◌, ◌≤◌, ◌^◌, IsOk, None, OnErr, OnOk, Some, max, slice_get};
+ghost use Rattle.std.specs.Option.{option_copied};
 ghost use Rattle.std.specs.FinMap as map;
 ghost use Rattle.std.specs.Ordering.{eq_by_cmp};
 ghost use Rattle.indexmap.specs.IndexMap as index;
@@ -106,6 +107,17 @@ impl ChildIndex {
         }
     }
 
+    /// The value of a place; `None` exactly where the place isn't there.
+    #[tactic(auto, using(crate::proofs::Numbered::after))]
+    pub fn value(&self, place: u64) -> Option<&Value>
+        ensures { option_copied result ≡ map.get self.now.values place }
+    {
+        match self.numbers.get(&place) {
+            Some(number) => known_value(&self.counts, *number),
+            None => None,
+        }
+    }
+
     /// How many places have the value.
     #[tactic(auto, using(crate::proofs::Numbered::after))]
     pub fn count(&self, value: &Value) -> u64
@@ -127,6 +139,16 @@ impl ChildIndex {
                 self.remove(place as u64);
             }
         }
+    }
+}
+
+/// The value with this number.
+fn known_value(counts: &IndexMap<Value, u64>, number: u64) -> Option<&Value>
+    ensures { option_copied result ≡ slice_get (index.keys counts.now) number }
+{
+    match counts.get_index(number as usize) {
+        Some((value, _)) => Some(value),
+        None => None,
     }
 }
 

@@ -1,0 +1,10 @@
+use Rattle.std.proofs.Common.{◌≡◌, drop}
+use Rattle.wh_keys.specs.Indexes.{going, without_keys}
+use Rattle.wh_keys.proofs.key_places.KeyPlaces.take_out_all.Given as goal
+
+abbrev pub invariant-loop-change : goal.invariant-loop-change
+invariant-loop-change l =
+    record {
+      same : l.self.before ≡ l.initial.self.before;
+      now : without_keys (going l.column (drop l.change-index l.changes)) l.self.now ≡ without_keys (going l.column l.changes) l.initial.self.now;
+    }

@@ -1,0 +1,4 @@
+pub mod Coded
+pub mod Indexes
+pub mod Made
+pub mod Undoing
