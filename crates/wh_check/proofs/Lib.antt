@@ -1,12 +1,14 @@
-mod Places
-mod Names
-mod Literals
 mod Sizes
-mod Allowing
-mod Sourcing
-mod Bases
-mod Growing
-mod Counted
+pub mod FreshSteps
+pub mod FreshMarks
+pub mod FreshCounts
+pub mod FreshNow
+mod Looked
+mod Made
+mod Inserted
+mod Shapes
+mod Final
+mod Ending
+mod Lifting
 mod Running
-mod Accepting
 mod Filled

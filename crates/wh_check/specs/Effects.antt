@@ -1,6 +1,6 @@
--- What a block of INSERTs makes of tables, or where it stops.
+-- What a block makes of tables and their indexes, or where it stops.
 use Rattle.std.specs.List.{list_all}
-use Rattle.std.specs.Prelude.{◌≡◌, ◌+◌, Bool, Err, List, None, Ok, Result, Some, [], false, length, nat_le, true, ℕ}
+use Rattle.std.specs.Prelude.{◌≡◌, ◌+◌, Bool, Err, List, Ok, Result, Some, false, length, nat_le, true, ℕ}
 use Rattle.wh_base.specs.declared.replies.Refused.{Refused}
 use Rattle.wh_base.specs.declared.statements.ChangeStatement.TheVariants.{Insert}
 use Rattle.wh_base.specs.declared.statements.Statement.{Statement}
@@ -10,16 +10,12 @@ use Rattle.wh_base.specs.declared.tables.Kind.TheVariants.{Number, Text}
 use Rattle.wh_base.specs.declared.tables.TableDef.{TableDef}
 use Rattle.def_effect.specs.Block.{Progress, Stopped, effect, new_versions}
 use Rattle.wh_check.specs.declared.block.Checked.{Checked}
+use Rattle.wh_constraints.specs.Constraints.{AreRight}
 use Rattle.wh_image.specs.Laws.{Leaves}
+use Rattle.wh_keys.specs.Indexes.{Indexes}
 use Rattle.wh_table.specs.Stored.{Stored, base_seen}
 
 -- ---- what a block and its tables have to be
-
--- no keys, no foreign keys and no partitions
-pub record IsPlainDef (d : TableDef) : Type 0 where
-  pub keys : d.keys ≡ []
-  pub foreign : d.foreign ≡ []
-  pub whole : d.part_key ≡ None
 
 abbrev pub is_insert : Statement → Bool
 is_insert (about.Change (Insert s)) = true
@@ -54,3 +50,18 @@ pub record Stops (scn : ℕ) (tables : List Stored) (kept : ℕ) (statements : L
 abbrev pub IsOutcome : {L : Type 0} → ℕ → List Stored → ℕ → List Statement → Result (Checked L) Refused → Type 0
 IsOutcome scn tables kept statements (Ok c) = Makes scn tables kept statements c.tables.scn c.tables.tables.items c.rows c.versions c.read
 IsOutcome scn tables kept statements (Err r) = Stops scn tables kept statements r
+
+-- how many rows were scanned
+abbrev pub read_by : {L : Type 0} → Result (Checked L) Refused → ℕ
+read_by (Ok c) = c.read
+read_by (Err r) = r.read
+
+-- the indexes are those of the tables that a block leaves
+abbrev pub AreKept : {L : Type 0} → List Indexes → Result (Checked L) Refused → Type 0
+AreKept now (Ok c) = AreRight c.tables.scn c.tables.tables.items now
+AreKept now (Err r) = Unit {0}
+
+-- where the block is refused, they are as they were
+abbrev pub KeysLeft : {L : Type 0} → List Indexes → List Indexes → Result (Checked L) Refused → Type 0
+KeysLeft before now (Ok c) = AreRight c.tables.scn c.tables.tables.items now
+KeysLeft before now (Err r) = now ≡ before

@@ -1,4 +1,4 @@
-pub mod Asking
 pub mod Effects
+pub mod Fresh
 pub mod Making
 pub mod Rows

@@ -1,73 +1,133 @@
--- The third step and the loop over the statements: the limits, the tables with the rows of a statement, and how far a block has come.
-use Rattle.std.specs.List.{All}
-use Rattle.std.specs.Prelude.{◌≡◌, ◌<◌, ◌+◌, Bool, Err, IsTrue, List, Ok, Option, Result, [], cond, length, nat_lt, not, ℕ, ◌&&◌, ◌==◌, ◌∷◌}
-use Rattle.def_effect.specs.Block.{insert_changes, max_rows, max_versions}
-use Rattle.wh_base.specs.Lists.{first_some, is_empty, unless, where_true, ◌>>=◌}
-use Rattle.wh_base.specs.Tables.{Base, defs_of as base_defs, table_after, table_at, with_table}
+-- One statement of a block: the second and the third step, and the tables with its changes.
+use Rattle.std.specs.List.{All, list_all}
+use Rattle.std.specs.Prelude.{◌≡◌, ◌≤◌, Bool, Err, IsTrue, List, None, Ok, Option, Result, [], cond, false, filter, is_none, length, map, nat_lt, true, ℕ, ◌++◌, ◌+◌, ◌^◌, ◌∷◌}
+use Rattle.def_effect.specs.Block.{Asks, Progress, Stopped, changed_row_refusal, run_statement}
+use Rattle.def_effect.specs.Block as effect
+use Rattle.wh_base.specs.Lists.{first_of, first_some, option_case, where_true}
+use Rattle.wh_base.specs.Tables.{Table, TableChange, most_live}
+use Rattle.wh_base.specs.Values.{is_small}
 use Rattle.wh_base.specs.declared.replies.Refusal.{Refusal}
 use Rattle.wh_base.specs.declared.replies.Refusal.TheVariants.{TableFull, VersionsFull}
-use Rattle.wh_base.specs.declared.statements.InsertRows.{InsertRows}
+use Rattle.wh_base.specs.declared.statements.Statement.{Statement}
 use Rattle.wh_base.specs.declared.tables.TableDef.{TableDef}
-use Rattle.wh_base.specs.declared.values.Value.{Value}
-use Rattle.wh_check.specs.Asking.{asked_from}
 use Rattle.wh_check.specs.Effects.{is_sized_def}
-use Rattle.wh_check.specs.Rows.{rows_refusal}
-use Rattle.wh_check.specs.declared.asks.Asked.{Asked}
-use Rattle.wh_image.specs.Standing.{changed_at}
+use Rattle.wh_check.specs.Fresh.{AreMarked, changes_made, fresh_come, fresh_of}
+use Rattle.wh_check.specs.Rows.{row_refusal}
+use Rattle.wh_check.specs.declared.statement.Made.{Made}
+use Rattle.wh_check.specs.declared.statement.Stop.{Stop}
+use Rattle.wh_constraints.specs.Constraints.{AreRight, keys_refusal}
+use Rattle.wh_dml.specs.Changes.{change_of}
+use Rattle.wh_dml.specs.Placed.{IsNext}
+use Rattle.wh_dml.specs.declared.changes.RowChange.{RowChange}
+use Rattle.wh_image.specs.Laws.{is_in}
+use Rattle.wh_image.specs.Standing.{changed_at, is_change}
+use Rattle.wh_keys.specs.Indexes.{Indexes}
 use Rattle.wh_table.specs.Kept.{defs_of}
-use Rattle.wh_table.specs.Stored.{Stored, base_seen}
+use Rattle.wh_table.specs.Stored.{Stored, base_seen, live_count}
 
--- ---- limits
+-- ---- the tables of a block
 
--- so many rows would live in the table of this name, and so many row versions would be kept
-abbrev pub limits_refusal : List ℕ → ℕ → ℕ → Option Refusal
-limits_refusal name live versions =
-    first_some (where_true (nat_lt max_rows live) (TableFull name) ∷ where_true (nat_lt max_versions versions) (VersionsFull name) ∷ [])
-
--- the refusal of these new rows of a table of which so many live, where so many versions are kept
-abbrev pub made_refusal : TableDef → ℕ → ℕ → List (List Value) → Option Refusal
-made_refusal d live versions rows =
-    first_some (rows_refusal d rows ∷ limits_refusal d.name (live + length rows) (versions + length rows) ∷ [])
-
--- the same of a base state
-abbrev pub base_refusal : Base → ℕ → Asked → Option Refusal
-base_refusal base versions a = made_refusal (table_at base a.table).def (length (table_at base a.table).rows) versions a.rows
-
--- what an INSERT asks of a base state with so many kept versions, or its refusal at any step
-abbrev pub allowed : Base → ℕ → Asked → Result Asked Refusal
-allowed base versions a = unless (base_refusal base versions a) a
-
-abbrev pub insert_outcome : Base → ℕ → InsertRows → Result Asked Refusal
-insert_outcome base versions s = asked_from (base_defs base) s >>= allowed base versions
-
--- ---- new rows
+-- no table has partitions
+pub record AreWhole (tables : List Stored) : Type 0 where
+  pub all : All (λ s. s.def.part_key ≡ None) tables
 
 -- the kinds of all columns are within their sizes
 pub record AreSized (tables : List Stored) : Type 0 where
   pub all : All (λ s. IsTrue (is_sized_def s.def)) tables
 
--- the base state with these new rows in a table
-abbrev pub with_rows : ℕ → List (List Value) → Base → Base
-with_rows n rows base = with_table base n (table_after (table_at base n) (insert_changes (table_at base n) rows))
+-- ---- changes
 
--- new rows change the table with this number
-abbrev pub is_grown : ℕ → List (List Value) → ℕ → Bool
-is_grown n rows m = (n == m) && not (is_empty rows)
+-- how many of the changes insert a row
+abbrev pub inserts_in : List RowChange → ℕ
+inserts_in cs = length (filter (λ c. is_none c.old) cs)
 
--- The tables after are those before with these rows in the table with this number, from the SCN on.
-pub record Grows (scn n : ℕ) (rows : List (List Value)) (before after : List Stored) : Type 0 where
-  pub there : n < length before
-  pub base : base_seen scn after ≡ with_rows n rows (base_seen scn before)
+-- the numbers of each new row are below 10^15 in size
+abbrev pub is_small_change : RowChange → Bool
+is_small_change c = option_case c.new true (λ r. list_all is_small r.values)
+
+-- the first value of the new row that its column may not hold
+abbrev pub change_refusal : TableDef → RowChange → Option Refusal
+change_refusal d c = option_case c.new None (λ r. row_refusal d r.values)
+
+abbrev pub changes_refusal : TableDef → List RowChange → Option Refusal
+changes_refusal d cs = first_of (change_refusal d) cs
+
+-- the changes leave more rows in the table than it may have: none of them inserts a row, or all do
+abbrev pub room_refusal : Stored → List RowChange → Option Refusal
+room_refusal s cs = where_true (nat_lt effect.max_rows (live_count s + inserts_in cs)) (TableFull s.def.name)
+
+-- the first refusal of the changes of the table with this number before they are made
+abbrev pub asked_refusal : ℕ → List Stored → ℕ → Stored → List RowChange → Option Refusal
+asked_refusal scn tables n s cs = first_some (changes_refusal s.def cs ∷ keys_refusal scn tables n cs ∷ room_refusal s cs ∷ [])
+
+-- the table has a place for each row that the changes bring
+abbrev pub has_places : Stored → List RowChange → Bool
+has_places s cs = nat_lt (length s.versions + fresh_come cs) (2 ^ 32)
+
+-- more row versions are kept than may be
+abbrev pub versions_refusal : Stored → ℕ → Option Refusal
+versions_refusal s versions = where_true (nat_lt effect.max_versions versions) (VersionsFull s.def.name)
+
+-- The change can be made in the table: it fits, there is room for a new row, and the numbers in it are small.
+pub record CanMake (s : Stored) (c : RowChange) : Type 0 where
+  pub next : IsNext s c
+  pub room : live_count s + cond (is_none c.old) 1 0 ≤ most_live
+  pub small : IsTrue (is_small_change c)
+
+-- Where a row of these changes is not refused, its numbers are small. They all insert rows, or none does, and then they are no more than the table's rows.
+pub record HaveShape (t : Table) (cs : List RowChange) : Type 0 where
+  pub small : All (λ c. changed_row_refusal t (change_of c) ≡ None → IsTrue (is_small_change c)) cs
+  pub inserts : Bool
+  pub alike : All (λ c. is_none c.old ≡ inserts) cs
+  pub few : inserts ≡ false → length cs ≤ length t.rows
+
+-- ---- what comes of a statement
+
+-- what a block has done when it comes to a statement over these tables
+abbrev pub done_at : ℕ → List Stored → List TableChange → ℕ → Progress
+done_at scn tables changes scanned = record { base = base_seen scn tables; changes = changes; scanned = scanned }
+
+-- what a statement asks of the definitions
+abbrev pub asks_of : ℕ → List RowChange → ℕ → Asks
+asks_of n cs scanned = record { table = n; changes = map change_of cs; scanned = scanned }
+
+-- A step of a block goes through over these tables: it leaves those tables, and what the block has done has these changes more.
+pub record Goes (step : ℕ → Progress → Result Progress Stopped) (scn kept : ℕ) (before after : List Stored) (rows fresh read : ℕ) : Type 0 where
+  pub table : ℕ
+  pub changes : List RowChange
+  pub is : (at : ℕ) (done : List TableChange) (scanned : ℕ) → AreMarked scn before done
+      → step at (done_at scn before done scanned) ≡ Ok (done_at scn after (done ++ changes_made table changes) (scanned + read))
+  pub marked : (done : List TableChange) → AreMarked scn before done → AreMarked scn after (done ++ changes_made table changes)
+  pub fresh_is : fresh ≡ fresh_of scn after
+  pub few : kept + fresh ≤ effect.max_versions
+  pub rows_are : rows ≡ length changes
+  pub few_rows : rows ≤ effect.max_rows
   pub defs : defs_of after ≡ defs_of before
-  pub moved : (m : ℕ) → changed_at after m ≡ cond (is_grown n rows m) scn (changed_at before m)
+  pub moved : (m : ℕ) → changed_at after m ≡ cond (is_in (changes_made table changes) m) scn (changed_at before m)
+  pub noted : All (λ d. is_change d.change ≡ true) (changes_made table changes)
 
--- What an INSERT made of tables at an SCN where so many versions were kept: it made so many changes, or was refused.
-pub record Inserts (scn versions : ℕ) (before after : List Stored) (s : InsertRows) (count : ℕ) : Type 0 where
-  pub asked : Asked
-  pub is : insert_outcome (base_seen scn before) versions s ≡ Ok asked
-  pub counted : count ≡ length asked.rows
-  pub grows : Grows scn asked.table asked.rows before after
+-- The step is refused over these tables.
+pub record Fails (step : ℕ → Progress → Result Progress Stopped) (scn : ℕ) (before : List Stored) (code : Refusal) (read : ℕ) : Type 0 where
+  pub is : (at : ℕ) (done : List TableChange) (scanned : ℕ) → AreMarked scn before done
+      → step at (done_at scn before done scanned) ≡ Err (record { at = at; code = code; scanned = scanned + read })
 
-abbrev pub InsertEnds : ℕ → ℕ → List Stored → List Stored → InsertRows → Result ℕ Refusal → Type 0
-InsertEnds scn versions before after s (Ok count) = Inserts scn versions before after s count
-InsertEnds scn versions before after s (Err code) = insert_outcome (base_seen scn before) versions s ≡ Err code
+abbrev pub Ends : (ℕ → Progress → Result Progress Stopped) → ℕ → ℕ → List Stored → List Stored → Result Made Stop → Type 0
+Ends step scn kept before after (Ok made) = Goes step scn kept before after made.rows made.fresh made.read
+Ends step scn kept before after (Err stop) = Fails step scn before stop.code stop.read
+
+-- a statement of a block, and what is asked of a table
+abbrev pub ask_step : ℕ → Asks → ℕ → Progress → Result Progress Stopped
+ask_step kept a at p = effect.make_changes kept at p a
+
+abbrev pub statement_step : ℕ → Statement → ℕ → Progress → Result Progress Stopped
+statement_step kept s at p = run_statement kept at p s
+
+-- how many rows a statement scanned
+abbrev pub read_in : Result Made Stop → ℕ
+read_in (Ok made) = made.read
+read_in (Err stop) = stop.read
+
+-- the indexes are those of the tables that a statement leaves
+abbrev pub StayRight : ℕ → List Stored → List Indexes → Result Made Stop → Type 0
+StayRight scn tables all (Ok made) = AreRight scn tables all
+StayRight scn tables all (Err stop) = Unit {0}

@@ -13,9 +13,6 @@ use Rattle.wh_base.specs.declared.values.Value.{Value}
 abbrev pub row_refusal : TableDef → List Value → Option Refusal
 row_refusal d vs = first_of (column_refusal d) (zip d.columns vs)
 
-abbrev pub rows_refusal : TableDef → List (List Value) → Option Refusal
-rows_refusal d rows = first_of (row_refusal d) rows
-
 -- ---- the same column by column
 
 -- a value that is of the wrong kind or size for its column, or NULL in a column that is NOT NULL

@@ -3,14 +3,15 @@ ghost use Rattle.std.specs.List.{list_all, list_any};
 ghost use Rattle.std.specs.Prelude.{◌≡◌, ◌≤◌, ◌^◌, IfOk, IsTrue, nat_abs, nat_lt};
 ghost use Rattle.def_effect.specs.Block.{byte_is_barred, column_refusal, fits_kind};
 ghost use Rattle.wh_check.specs.Effects.{is_sized_def, kind_is_sized};
-ghost use Rattle.wh_check.specs.Rows.{row_refusal, rows_refusal, size_refusal, sizes_refusal};
+ghost use Rattle.wh_check.specs.Making.{change_refusal, changes_refusal};
+ghost use Rattle.wh_check.specs.Rows.{row_refusal, size_refusal, sizes_refusal};
 
 use std::alloc::{AllocError, Global};
 use wh_base::replies::Refusal;
-use wh_base::seq::Seq;
 use wh_base::tables::{ColumnDef, Kind, TableDef};
 use wh_base::txt::Txt;
 use wh_base::values::Value;
+use wh_dml::RowChange;
 
 fn byte_is_barred(byte: u8) -> bool
     ensures { result ≡ byte_is_barred byte }
@@ -103,18 +104,36 @@ fn row_refusal(alloc: Global, def: &TableDef, row: &[Value]) -> Result<Option<Re
     sizes_refusal(alloc, &def.name, def.columns.as_slice(), row)
 }
 
-/// The first value of new rows of a table, row by row and from the left, that its column may not hold. An error says that
-/// memory ran out.
-pub fn rows_refusal(
+/// The first value of the new row of a change that its column may not hold.
+fn change_refusal(
     alloc: Global,
     def: &TableDef,
-    rows: &[Seq<Value>],
+    change: &RowChange,
 ) -> Result<Option<Refusal>, AllocError>
     requires { IsTrue (is_sized_def def.now) }
-    ensures { IfOk result (λ r. r ≡ rows_refusal def.now rows.now) }
+    ensures { IfOk result (λ r. r ≡ change_refusal def.now change.now) }
 {
-    for row in rows {
-        if let Some(refusal) = row_refusal(alloc, def, row.as_slice())? {
+    match &change.new {
+        Some(row) => {
+            let refusal = row_refusal(alloc, def, row.values.as_slice())?;
+            Ok(refusal)
+        }
+        None => Ok(None),
+    }
+}
+
+/// The first value of the new rows of changes of a table, change by change and from the left, that its column may not hold.
+/// An error says that memory ran out.
+pub(crate) fn changes_refusal(
+    alloc: Global,
+    def: &TableDef,
+    changes: &[RowChange],
+) -> Result<Option<Refusal>, AllocError>
+    requires { IsTrue (is_sized_def def.now) }
+    ensures { IfOk result (λ r. r ≡ changes_refusal def.now changes.now) }
+{
+    for change in changes {
+        if let Some(refusal) = change_refusal(alloc, def, change)? {
             return Ok(Some(refusal));
         }
     }

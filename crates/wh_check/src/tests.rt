@@ -1,24 +1,64 @@
 ghost use Rattle.std.specs.List.{All, list_all};
-ghost use Rattle.std.specs.Prelude.{◌≡◌, ◌≤◌, IfOk, IsTrue};
+ghost use Rattle.std.specs.Prelude.{◌≡◌, ◌≤◌, [], ◌∷◌, IfOk, IsTrue, None, cond, false};
 ghost use Rattle.def_effect.specs.Block.{max_versions};
-ghost use Rattle.wh_check.specs.Effects.{IsPlainDef, is_insert, is_sized_def};
+ghost use Rattle.wh_dml.specs.Asked.{is_checked};
+ghost use Rattle.wh_check.specs.Effects.{is_sized_def};
+ghost use Rattle.wh_constraints.specs.Constraints.{AreRight};
 
 use crate::{Checked, check_block};
 use std::alloc::{AllocError, Global};
 use std::test::Fail;
+use wh_base::reads::Reads;
 use wh_base::replies::{Refusal, Refused};
 use wh_base::seq::Seq;
-use wh_base::statements::{ChangeStatement, InsertRows, Statement};
-use wh_base::tables::{ColumnDef, Kind, TableDef};
+use wh_base::statements::{
+    ChangeStatement, DeleteRows, InsertRows, NewValue, SetColumn, Statement, UpdateRows,
+};
+use wh_base::tables::{ColumnDef, ForeignDef, Kind, TableDef};
 use wh_base::txt::Txt;
 use wh_base::values::Literal;
 use wh_base::wide::Wide;
+use wh_keys::Keys;
 use wh_table::Tables;
 
-// name (N NUMBER(1) NOT NULL, M NUMBER(3))
-fn definition(alloc: Global, name: &[u8]) -> Result<TableDef, AllocError>
-    ensures plain { IfOk result IsPlainDef }
+// A key in the first column.
+fn key(alloc: Global, keyed: bool) -> Result<Seq<u32>, AllocError>
+    ensures { IfOk result (λ ks. ks ≡ cond keyed (0 ∷ []) []) }
+{
+    let mut keys = Seq::new(alloc);
+    if keyed {
+        keys.push(0)?;
+    }
+    Ok(keys)
+}
+
+// A foreign key in the second column, to the first column of the first table.
+fn foreign(alloc: Global, is_child: bool) -> Result<Seq<ForeignDef>, AllocError>
+    ensures { IfOk result (λ fs. fs ≡ cond is_child (record { column = 1; table = 0; to = 0; rely = false } ∷ []) []) }
+{
+    let mut foreign = Seq::new(alloc);
+    if is_child {
+        foreign.push(ForeignDef {
+            column: 1,
+            table: 0,
+            to: 0,
+            rely: false,
+        })?;
+    }
+    Ok(foreign)
+}
+
+// name (N NUMBER(1) NOT NULL, M NUMBER(3)), with a key in N and a foreign key in M if asked
+fn definition(
+    alloc: Global,
+    name: &[u8],
+    keyed: bool,
+    is_child: bool,
+) -> Result<TableDef, AllocError>
+    ensures whole { IfOk result (λ d. d.part_key ≡ None) }
     ensures sized { IfOk result (λ d. IsTrue (is_sized_def d)) }
+    ensures keys { IfOk result (λ d. d.keys ≡ cond keyed (0 ∷ []) []) }
+    ensures foreign { IfOk result (λ d. d.foreign ≡ cond is_child (record { column = 1; table = 0; to = 0; rely = false } ∷ []) []) }
 {
     let mut columns = Seq::new(alloc);
     columns.push(ColumnDef {
@@ -34,24 +74,37 @@ fn definition(alloc: Global, name: &[u8]) -> Result<TableDef, AllocError>
     Ok(TableDef {
         name: Txt::from_slice(alloc, name)?,
         columns,
-        keys: Seq::new(alloc),
+        keys: key(alloc, keyed)?,
         primary: None,
-        foreign: Seq::new(alloc),
+        foreign: foreign(alloc, is_child)?,
         part_key: None,
     })
 }
 
-// The tables A and B.
+#[derive(Drop)]
+struct Stock {
+    tables: Tables<()>,
+    keys: Keys,
+}
+
+// The tables A and B, without keys, or both with a key in N and B with a foreign key in M to the key of A.
 #[tactic(auto, using(crate::proofs::Filled::filled))]
-fn two_tables(alloc: Global) -> Result<Tables<()>, AllocError>
-    ensures scn { IfOk result (λ t. t.scn ≡ 0) }
-    ensures plain { IfOk result (λ t. All (λ s. IsPlainDef s.def) t.tables.items) }
-    ensures sized { IfOk result (λ t. All (λ s. IsTrue (is_sized_def s.def)) t.tables.items) }
+fn two_tables(alloc: Global, keyed: bool) -> Result<Stock, AllocError>
+    ensures scn { IfOk result (λ t. t.tables.scn ≡ 0) }
+    ensures whole { IfOk result (λ t. All (λ s. s.def.part_key ≡ None) t.tables.tables.items) }
+    ensures sized { IfOk result (λ t. All (λ s. IsTrue (is_sized_def s.def)) t.tables.tables.items) }
+    ensures right { IfOk result (λ t. AreRight t.tables.scn t.tables.tables.items t.keys.now) }
+    ensures settled { IfOk result (λ t. t.keys.before ≡ t.keys.now) }
 {
     let mut tables = Tables::new(alloc)?;
-    tables.push_table(alloc, definition(alloc, b"A")?)?;
-    tables.push_table(alloc, definition(alloc, b"B")?)?;
-    Ok(tables)
+    let mut keys = Keys::new(alloc);
+    let parent = definition(alloc, b"A", keyed, false)?;
+    keys.push_table(alloc, &parent)?;
+    tables.push_table(alloc, parent)?;
+    let child = definition(alloc, b"B", keyed, keyed)?;
+    keys.push_table(alloc, &child)?;
+    tables.push_table(alloc, child)?;
+    Ok(Stock { tables, keys })
 }
 
 // Columns of one letter each; none is no list.
@@ -83,19 +136,58 @@ fn row(alloc: Global, values: &[u8]) -> Result<Seq<Option<Literal>>, AllocError>
     Ok(row)
 }
 
-// INSERT INTO table (columns) VALUES (values)
+// INSERT INTO table (columns) VALUES (values), two values to a row
 fn insert(alloc: Global, table: &str, columns: &str, values: &str) -> Result<Statement, AllocError>
-    ensures { IfOk result (λ s. IsTrue (is_insert s)) }
+    ensures { IfOk result (λ s. IsTrue (is_checked s)) }
 {
     let table = Txt::from_slice(alloc, table.as_bytes())?;
     let columns = listed(alloc, columns.as_bytes())?;
     let mut rows = Seq::new(alloc);
-    rows.push(row(alloc, values.as_bytes())?)?;
+    for values in values.as_bytes().chunks(2) {
+        rows.push(row(alloc, values)?)?;
+    }
     Ok(Statement::Change(ChangeStatement::Insert(InsertRows {
         table,
         columns,
         rows,
     })))
+}
+
+// DELETE FROM table
+fn delete(alloc: Global, table: &str) -> Result<Statement, AllocError>
+    ensures { IfOk result (λ s. IsTrue (is_checked s)) }
+{
+    let table = Txt::from_slice(alloc, table.as_bytes())?;
+    let conditions = Seq::new(alloc);
+    Ok(Statement::Change(ChangeStatement::Delete(DeleteRows { table, conditions })))
+}
+
+// UPDATE table SET N = N + 1
+fn shift(alloc: Global, table: &str) -> Result<Statement, AllocError>
+    ensures { IfOk result (λ s. IsTrue (is_checked s)) }
+{
+    let table = Txt::from_slice(alloc, table.as_bytes())?;
+    let mut sets = Seq::new(alloc);
+    sets.push(SetColumn {
+        column: Txt::from_slice(alloc, b"N")?,
+        value: NewValue::Moved(Txt::from_slice(alloc, b"N")?, 1),
+    })?;
+    let conditions = Seq::new(alloc);
+    Ok(Statement::Change(ChangeStatement::Update(UpdateRows {
+        table,
+        sets,
+        conditions,
+    })))
+}
+
+// An INSERT of a row into a table, or a DELETE of all rows of A.
+fn second(alloc: Global, table: &str) -> Result<Statement, AllocError>
+    ensures { IfOk result (λ s. IsTrue (is_checked s)) }
+{
+    if table.is_empty() {
+        return delete(alloc, "A");
+    }
+    insert(alloc, table, "", "1x")
 }
 
 fn code(refusal: &Refusal) -> &'static str {
@@ -105,6 +197,9 @@ fn code(refusal: &Refusal) -> &'static str {
         Refusal::NoSuchColumn(_) => "MV-03",
         Refusal::ValueDoesNotFit(_, _) => "MV-04",
         Refusal::NullNotAllowed(_, _) => "MV-05",
+        Refusal::DuplicateKey(_, _) => "MV-06",
+        Refusal::ParentMissing(_, _) => "MV-07",
+        Refusal::ChildExists(_, _) => "MV-08",
         Refusal::VersionsFull(_) => "MV-15",
         _ => "another",
     }
@@ -118,18 +213,18 @@ fn told(outcome: &Result<Checked<()>, Refused>) -> (&'static str, u64) {
     }
 }
 
-// An INSERT of a row into A, and one of another into the second table.
+// An INSERT of a row into A, and a statement on the second table.
 fn block(
     alloc: Global,
     columns: &str,
     values: &str,
-    second: &str,
+    table: &str,
 ) -> Result<Vec<Statement>, AllocError>
-    ensures { IfOk result (λ ss. IsTrue (list_all is_insert ss.items)) }
+    ensures { IfOk result (λ ss. IsTrue (list_all is_checked ss.items)) }
 {
     let mut statements = Vec::new(alloc);
     statements.push(insert(alloc, "A", columns, values)?)?;
-    statements.push(insert(alloc, second, "", "1x")?)?;
+    statements.push(second(alloc, table)?)?;
     Ok(statements)
 }
 
@@ -139,11 +234,12 @@ fn answer(
     kept: u64,
     statements: &[Statement],
 ) -> Result<(&'static str, u64), AllocError>
-    requires inserts { IsTrue (list_all is_insert statements.now) }
+    requires checked { IsTrue (list_all is_checked statements.now) }
     requires kept { kept ≤ max_versions }
 {
-    let tables = two_tables(alloc)?;
-    let outcome = check_block(alloc, &tables, kept, statements)?;
+    let Stock { tables, mut keys } = two_tables(alloc, false)?;
+    let mut reads = Reads::new(());
+    let outcome = check_block(alloc, &tables, &mut keys, kept, statements, &mut reads)?;
     Ok(told(&outcome))
 }
 
@@ -167,18 +263,86 @@ fn blocks(rt: HostRuntime) -> Result<(), Fail> {
     let alloc = rt.alloc();
     for (kept, columns, values, second, wanted, number) in [
         (0, "MN", "x1", "B", "made", 2),
-        (1_048_574, "N", "1", "A", "made", 1_048_576),
+        (3, "MN", "x1", "", "made", 3),
         (1_048_575, "N", "1", "A", "MV-15", 2),
         (0, "M", "x", "A", "MV-05", 1),
-        (0, "", "x1", "A", "MV-04", 1),
-        (0, "", "1", "A", "MV-04", 1),
-        (0, "NN", "11", "A", "MV-01", 1),
-        (0, "NX", "11", "A", "MV-03", 1),
         (0, "", "1x", "C", "MV-02", 2),
     ] {
         let told = answer_to(alloc, kept, columns, values, second)?;
         assert_eq!(rt; told.0, wanted, "{columns} {values} {second}");
         assert_eq!(rt; told.1, number, "{columns} {values} {second}");
     }
+    Ok(())
+}
+
+// Values are inserted, `+` adds 1 to all keys, and nothing deletes all rows.
+fn statement(alloc: Global, table: &str, values: &str) -> Result<Statement, AllocError>
+    ensures { IfOk result (λ s. IsTrue (is_checked s)) }
+{
+    match values.len() {
+        0 => delete(alloc, table),
+        1 => shift(alloc, table),
+        _ => insert(alloc, table, "", values),
+    }
+}
+
+fn three(
+    alloc: Global,
+    first: (&str, &str),
+    second: (&str, &str),
+    third: (&str, &str),
+) -> Result<Vec<Statement>, AllocError>
+    ensures { IfOk result (λ ss. IsTrue (list_all is_checked ss.items)) }
+{
+    let mut statements = Vec::new(alloc);
+    statements.push(statement(alloc, first.0, first.1)?)?;
+    statements.push(statement(alloc, second.0, second.1)?)?;
+    statements.push(statement(alloc, third.0, third.1)?)?;
+    Ok(statements)
+}
+
+// What comes of a block over tables with keys, and what comes of another after it is refused.
+fn keyed_answers(
+    alloc: Global,
+    statements: &[Statement],
+    others: &[Statement],
+) -> Result<(&'static str, u64, &'static str), AllocError>
+    requires checked { IsTrue (list_all is_checked statements.now) }
+    requires others { IsTrue (list_all is_checked others.now) }
+{
+    let Stock { tables, mut keys } = two_tables(alloc, true)?;
+    let mut reads = Reads::new(());
+    match check_block(alloc, &tables, &mut keys, 0, statements, &mut reads)? {
+        Ok(checked) => Ok(("made", checked.versions, "made")),
+        Err(refused) => {
+            let number = u64::from(refused.at.unwrap_or(0));
+            let mut reads = Reads::new(());
+            let outcome = check_block(alloc, &tables, &mut keys, 0, others, &mut reads)?;
+            Ok((code(&refused.code), number, told(&outcome).0))
+        }
+    }
+}
+
+// Whether three statements come to this, and whether a block that goes through then does so after them.
+fn comes_to(
+    alloc: Global,
+    first: (&str, &str),
+    second: (&str, &str),
+    third: (&str, &str),
+    wanted: &str,
+    number: u64,
+) -> Result<bool, AllocError> {
+    let statements = three(alloc, first, second, third)?;
+    let others = three(alloc, ("A", "1-2-"), ("B", "11"), ("A", "3-"))?;
+    let told = keyed_answers(alloc, statements.as_slice(), others.as_slice())?;
+    Ok(told.0 == wanted && told.1 == number && told.2 == "made")
+}
+
+#[test]
+fn keys_are_asked(rt: HostRuntime) -> Result<(), Fail> {
+    let alloc = rt.alloc();
+    assert!(rt; comes_to(alloc, ("A", "1-2-"), ("A", "+"), ("A", "1-"), "made", 3)?);
+    assert!(rt; comes_to(alloc, ("A", "1-"), ("A", "1-"), ("B", "11"), "MV-06", 2)?);
+    assert!(rt; comes_to(alloc, ("A", "1-"), ("B", "11"), ("A", ""), "MV-08", 3)?);
     Ok(())
 }
