@@ -1,12 +1,10 @@
 -- Which commands the program runs so far: those of a form that is built, and for a time the conditions here. Each command is
 -- built by itself, whatever stands before it.
-use Rattle.def_built.specs.Forms.{block_form, is_built, statement_form}
+use Rattle.def_built.specs.Forms.{block_form, change_form, is_built, statement_form}
 use Rattle.def_built.specs.declared.forms.Form.TheVariants as forms
 use Rattle.std.specs.List.{list_all}
 use Rattle.std.specs.Prelude.{◌&&◌, Bool, List, Option, Some, false, is_none, not, true}
 use Rattle.wh_base.specs.declared.queries.RawQuery.{RawQuery}
-use Rattle.wh_base.specs.declared.statements.ColumnMark.{ColumnMark}
-use Rattle.wh_base.specs.declared.statements.ColumnMark.TheVariants.{NotNull}
 use Rattle.wh_base.specs.declared.statements.Command.{Command}
 use Rattle.wh_base.specs.declared.statements.Command.TheVariants as commands
 use Rattle.wh_base.specs.declared.statements.Method.{Method}
@@ -18,25 +16,15 @@ use Rattle.wh_base.specs.declared.statements.ShowStatement.{ShowStatement}
 use Rattle.wh_base.specs.declared.statements.ShowStatement.TheVariants.{ShowView}
 use Rattle.wh_base.specs.declared.statements.Statement.{Statement}
 use Rattle.wh_base.specs.declared.statements.Statement.TheVariants as about
-use Rattle.wh_base.specs.declared.statements.TablePart.{TablePart}
-use Rattle.wh_base.specs.declared.statements.TablePart.TheVariants as parts
 use Rattle.wh_base.specs.declared.statements.TableStatement.{TableStatement}
 use Rattle.wh_base.specs.declared.statements.TableStatement.TheVariants.{AlterTable, CreateTable}
 use Rattle.wh_base.specs.declared.statements.ViewStatement.{ViewStatement}
 use Rattle.wh_base.specs.declared.statements.ViewStatement.TheVariants.{CreateView}
 
--- ---- CREATE TABLE: columns alone, NOT NULL or not, and no partitions. What else is wrong with them is refused when it runs
-
-abbrev pub mark_is_built : ColumnMark → Bool
-mark_is_built NotNull = true
-mark_is_built m = false
-
-abbrev pub part_is_built : TablePart → Bool
-part_is_built (parts.Column c) = list_all mark_is_built c.marks
-part_is_built p = false
+-- ---- CREATE TABLE: all of it but PARTITION BY. What is wrong with it otherwise is refused when it runs
 
 abbrev pub new_table_is_built : NewTable → Bool
-new_table_is_built t = list_all part_is_built t.parts && is_none t.partitioning
+new_table_is_built t = is_none t.partitioning
 
 abbrev pub table_statement_is_built : TableStatement → Bool
 table_statement_is_built (CreateTable t) = is_built forms.CreateTable && new_table_is_built t
@@ -89,9 +77,17 @@ statement_is_built (about.Refresh r) = is_built forms.Refresh && refresh_is_buil
 statement_is_built (about.Show s) = is_built forms.Show && show_is_built s
 statement_is_built s = is_built (statement_form s)
 
--- a block is built by its form: an INSERT by itself, with a list of columns or without, and of any rows
+-- a statement of a block that changes rows is built by its form; every other is refused there, whatever it asks
+abbrev pub part_of_block_is_built : Statement → Bool
+part_of_block_is_built (about.Change s) = is_built (change_form s)
+part_of_block_is_built s = true
+
+-- a block is built by its form and by those of its statements
+abbrev pub block_is_built : List Statement → Bool
+block_is_built ss = is_built (block_form ss) && list_all part_of_block_is_built ss
+
 abbrev pub command_is_built : Command → Bool
-command_is_built (commands.Block b) = is_built (block_form b.statements)
+command_is_built (commands.Block b) = block_is_built b.statements
 command_is_built (commands.Other s) = statement_is_built s
 
 abbrev pub commands_are_built : List Command → Bool

@@ -15,12 +15,12 @@ use Rattle.wh_base.specs.declared.statements.TableStatement.TheVariants as table
 abbrev pub is_built : Form → Bool
 is_built forms.Session = true
 is_built forms.Order = true
-is_built forms.Block = false
+is_built forms.Block = true
 is_built forms.Load = false
 is_built forms.Select = true
 is_built forms.Insert = true
-is_built forms.Update = false
-is_built forms.Delete = false
+is_built forms.Update = true
+is_built forms.Delete = true
 is_built forms.CreateTable = true
 is_built forms.AlterTable = false
 is_built forms.Log = false

@@ -45,8 +45,11 @@ pub fn is_built(form: Form) -> bool
         form,
         Form::Session
             | Form::Order
+            | Form::Block
             | Form::Select
             | Form::Insert
+            | Form::Update
+            | Form::Delete
             | Form::CreateTable
             | Form::View
             | Form::Refresh

@@ -5,7 +5,7 @@ use Rattle.def_built.specs.Form.{built_script}
 use Rattle.def_grammar.specs.Script.{Outcome}
 use Rattle.def_rows.specs.Lines.{chars, digits, front_of, is_utf8, lines_text, next_record, strip_bom, tokens_of, utf8_valid_len}
 use Rattle.wh_base.specs.declared.statements.BadScript.{BadScript}
-use Rattle.wh_base.specs.declared.statements.ScriptKind.TheVariants.{NoEnd, NotBuilt, OpenStatement, OrderTooLong, Syntax}
+use Rattle.wh_base.specs.declared.statements.ScriptKind.TheVariants.{NoEnd, NotBuilt, OpenBlock, OpenStatement, OrderTooLong, Syntax}
 
 -- the place behind the end, or the fault
 abbrev place_or_fault : Outcome → Result ℕ BadScript
@@ -27,13 +27,17 @@ pub session : built (lines_text (codes "@setup" ∷ codes "@session 1" ∷ codes
 unfolding built_script digits utf8_valid_len is_utf8 chars lib.Utf8.encode tokens_of front_of next_record strip_bom
 session = refl
 
--- several tables, rows by a list of columns, a star query, a view with its complete refresh, and an order
+-- several tables with keys, rows by a list of columns, a block, a star query, a view with its complete refresh, and an order
 pub all_forms :
     built (lines_text (
     codes "@setup"
-    ∷ codes "CREATE TABLE S (P NUMBER NOT NULL, A NUMBER);"
-    ∷ codes "CREATE TABLE D (P NUMBER, G VARCHAR2(9));"
+    ∷ codes "CREATE TABLE D (P NUMBER PRIMARY KEY, G VARCHAR2(9) UNIQUE);"
+    ∷ codes "CREATE TABLE S (P NUMBER NOT NULL REFERENCES D, A NUMBER);"
     ∷ codes "INSERT INTO S (A, P) VALUES (1, 7);"
+    ∷ codes "BEGIN;"
+    ∷ codes "UPDATE S SET A = A + 1 WHERE P = 7;"
+    ∷ codes "DELETE FROM D;"
+    ∷ codes "COMMIT;"
     ∷ codes "CREATE MATERIALIZED VIEW V REFRESH COMPLETE AS SELECT P, SUM(A) FROM S GROUP BY P;"
     ∷ codes "@session 3"
     ∷ codes "SELECT D.G, AVG(S.A) AS M FROM S JOIN D ON S.P = D.P WHERE S.A > 0 GROUP BY D.G HAVING COUNT(*) > 1 ORDER BY M DESC;"
@@ -43,7 +47,7 @@ pub all_forms :
     ∷ codes "@order 5 3 5 5"
     ∷ codes "@end"
     ∷ []))
-    ≡ Ok 421
+    ≡ Ok 519
 unfolding built_script digits utf8_valid_len is_utf8 chars lib.Utf8.encode tokens_of front_of next_record strip_bom
 all_forms = refl
 
@@ -51,23 +55,28 @@ all_forms = refl
 pub parts_built :
     built_alone (
     codes "CREATE TABLE T (A NUMBER(99) NOT NULL, A VARCHAR2(0));"
+    ∷ codes "CREATE TABLE T (A NUMBER PRIMARY KEY, B NUMBER CONSTRAINT K UNIQUE REFERENCES T (A));"
+    ∷ codes "CREATE TABLE T (A NUMBER, PRIMARY KEY (A), CONSTRAINT K UNIQUE (B));"
+    ∷ codes "CREATE TABLE T (A NUMBER REFERENCES U RELY DISABLE NOVALIDATE, FOREIGN KEY (A) REFERENCES U (B) ENABLE VALIDATE);"
     ∷ codes "SELECT A FROM T;"
     ∷ codes "INSERT INTO T VALUES (1);"
+    ∷ codes "UPDATE T SET A = 1;"
+    ∷ codes "DELETE FROM T WHERE A IS NULL;"
+    ∷ codes "BEGIN; COMMIT;"
+    ∷ codes "BEGIN; INSERT INTO T VALUES (1); UPDATE T SET A = 2; DELETE FROM T; SELECT A FROM T; COMMIT;"
     ∷ codes "CREATE MATERIALIZED VIEW V REFRESH FORCE AS SELECT A FROM T;"
     ∷ codes "ALTER MATERIALIZED VIEW V ENABLE QUERY REWRITE;"
     ∷ codes "DROP MATERIALIZED VIEW V;"
     ∷ codes "UNREGISTER MATERIALIZED VIEW V;"
     ∷ [])
-    ≡ replicate 7 (Err (record { line = 2; kind = NoEnd }))
+    ≡ replicate 14 (Err (record { line = 2; kind = NoEnd }))
 unfolding built_script digits utf8_valid_len is_utf8 chars lib.Utf8.encode tokens_of front_of next_record strip_bom
 parts_built = refl
 
 -- parts of forms of which other parts are built
 pub parts_not_built :
     built_alone (
-    codes "CREATE TABLE T (A NUMBER PRIMARY KEY);"
-    ∷ codes "CREATE TABLE T (A NUMBER, UNIQUE (A));"
-    ∷ codes "CREATE TABLE T (A NUMBER) PARTITION BY RANGE (A) (PARTITION P VALUES LESS THAN (9));"
+    codes "CREATE TABLE T (A NUMBER) PARTITION BY RANGE (A) (PARTITION P VALUES LESS THAN (9));"
     ∷ codes "SELECT A FROM T AS OF SCN 1;"
     ∷ codes "CREATE MATERIALIZED VIEW V REFRESH FAST AS SELECT A FROM T;"
     ∷ codes "CREATE MATERIALIZED VIEW V REFRESH COMPLETE ON COMMIT AS SELECT A FROM T;"
@@ -75,23 +84,21 @@ pub parts_not_built :
     ∷ codes "EXEC DBMS_MVIEW.REFRESH('V', '?');"
     ∷ codes "SHOW LOG T;"
     ∷ [])
-    ≡ replicate 9 (Err (record { line = 2; kind = NotBuilt }))
+    ≡ replicate 7 (Err (record { line = 2; kind = NotBuilt }))
 unfolding built_script digits utf8_valid_len is_utf8 chars lib.Utf8.encode tokens_of front_of next_record strip_bom
 parts_not_built = refl
 
 -- forms of which nothing is built
 pub forms_not_built :
     built_alone (
-    codes "UPDATE T SET A = 1;"
-    ∷ codes "DELETE FROM T;"
-    ∷ codes "ALTER TABLE T DROP PARTITION P;"
+    codes "ALTER TABLE T DROP PARTITION P;"
     ∷ codes "DROP MATERIALIZED VIEW LOG ON T;"
     ∷ codes "DROP DIMENSION D;"
     ∷ codes "PURGE UNDO TO SCN 1;"
     ∷ codes "EXPLAIN REWRITE SELECT A FROM T;"
     ∷ codes "SET TRANSACTION READ ONLY;"
     ∷ [])
-    ≡ replicate 8 (Err (record { line = 2; kind = NotBuilt }))
+    ≡ replicate 6 (Err (record { line = 2; kind = NotBuilt }))
 unfolding built_script digits utf8_valid_len is_utf8 chars lib.Utf8.encode tokens_of front_of next_record strip_bom
 forms_not_built = refl
 
@@ -106,17 +113,32 @@ pub order_too_long :
 unfolding built_script digits utf8_valid_len is_utf8 chars lib.Utf8.encode tokens_of front_of next_record strip_bom
 order_too_long = refl
 
--- BEGIN is told, and not what stands in its block
-pub block :
+-- of a LOAD block `@load` is told
+pub load :
     built (lines_text (
     codes "@setup"
     ∷ codes "CREATE TABLE T (A NUMBER);"
-    ∷ codes "BEGIN; INSERT INTO T VALUES (1); COMMIT;"
+    ∷ codes "@load T"
+    ∷ codes "1"
+    ∷ codes "@endload"
     ∷ codes "@end"
     ∷ []))
     ≡ Err (record { line = 3; kind = NotBuilt })
 unfolding built_script digits utf8_valid_len is_utf8 chars lib.Utf8.encode tokens_of front_of next_record strip_bom
-block = refl
+load = refl
+
+-- a block that isn't closed is told on the line of its BEGIN, where its section ends
+pub open_block :
+    built (lines_text (
+    codes "@setup"
+    ∷ codes "CREATE TABLE T (A NUMBER);"
+    ∷ codes "BEGIN;"
+    ∷ codes "INSERT INTO T VALUES (1);"
+    ∷ codes "@end"
+    ∷ []))
+    ≡ Err (record { line = 3; kind = OpenBlock })
+unfolding built_script digits utf8_valid_len is_utf8 chars lib.Utf8.encode tokens_of front_of next_record strip_bom
+open_block = refl
 
 -- the earlier place is told
 pub before_a_fault :

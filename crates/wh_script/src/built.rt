@@ -1,4 +1,4 @@
-ghost use Rattle.def_built.specs.Commands.{command_is_built, is_complete, mark_is_built, method_is_built, new_table_is_built, new_view_is_built, part_is_built, query_is_built, refresh_is_built, show_is_built, statement_is_built, table_statement_is_built, view_statement_is_built};
+ghost use Rattle.def_built.specs.Commands.{block_is_built, command_is_built, is_complete, method_is_built, new_table_is_built, new_view_is_built, part_of_block_is_built, query_is_built, refresh_is_built, show_is_built, statement_is_built, table_statement_is_built, view_statement_is_built};
 ghost use Rattle.def_built.specs.Forms.{block_form, change_form, statement_form, table_form};
 ghost use Rattle.std.specs.List.{list_all};
 ghost use Rattle.std.specs.Prelude.{◌≡◌};
@@ -6,54 +6,14 @@ ghost use Rattle.std.specs.Prelude.{◌≡◌};
 use def_built::forms::{Form, is_built};
 use wh_base::queries::RawQuery;
 use wh_base::statements::{
-    ChangeStatement, ColumnMark, Command, Method, NewTable, NewView, RefreshView, ShowStatement,
-    Statement, TablePart, TableStatement, ViewStatement,
+    ChangeStatement, Command, Method, NewTable, NewView, RefreshView, ShowStatement, Statement,
+    TableStatement, ViewStatement,
 };
-
-fn mark_is_built(mark: &ColumnMark) -> bool
-    ensures { result ≡ mark_is_built mark.now }
-{
-    match mark {
-        ColumnMark::NotNull => true,
-        _ => false,
-    }
-}
-
-fn marks_are_built(marks: &[ColumnMark]) -> bool
-    ensures { result ≡ list_all mark_is_built marks.now }
-{
-    for mark in marks {
-        if !mark_is_built(mark) {
-            return false;
-        }
-    }
-    true
-}
-
-fn part_is_built(part: &TablePart) -> bool
-    ensures { result ≡ part_is_built part.now }
-{
-    match part {
-        TablePart::Column(column) => marks_are_built(column.marks.as_slice()),
-        _ => false,
-    }
-}
-
-fn parts_are_built(parts: &[TablePart]) -> bool
-    ensures { result ≡ list_all part_is_built parts.now }
-{
-    for part in parts {
-        if !part_is_built(part) {
-            return false;
-        }
-    }
-    true
-}
 
 fn new_table_is_built(table: &NewTable) -> bool
     ensures { result ≡ new_table_is_built table.now }
 {
-    parts_are_built(table.parts.as_slice()) && table.partitioning.is_none()
+    table.partitioning.is_none()
 }
 
 fn table_statement_is_built(table: &TableStatement) -> bool
@@ -183,13 +143,40 @@ fn statement_is_built(statement: &Statement) -> bool
     }
 }
 
+// A statement of a block that changes rows is built by its form; every other is refused there when the block runs.
+fn part_of_block_is_built(statement: &Statement) -> bool
+    ensures { result ≡ part_of_block_is_built statement.now }
+{
+    match statement {
+        Statement::Change(change) => is_built(change_form(change)),
+        _ => true,
+    }
+}
+
+fn parts_of_block_are_built(statements: &[Statement]) -> bool
+    ensures { result ≡ list_all part_of_block_is_built statements.now }
+{
+    for statement in statements {
+        if !part_of_block_is_built(statement) {
+            return false;
+        }
+    }
+    true
+}
+
+fn block_is_built(statements: &[Statement]) -> bool
+    ensures { result ≡ block_is_built statements.now }
+{
+    is_built(block_form(statements)) && parts_of_block_are_built(statements)
+}
+
 /// Whether the program runs a command so far, whatever stands before it: whether its form is built, and of a form that is
-/// built in part, whether it is of that part. Which forms and parts are built is this project's own rule.
+/// built in part, whether it is of that part; of a block also whether the forms of its statements are. Which forms and parts are built is this project's own rule.
 pub fn command_is_built(command: &Command) -> bool
     ensures { result ≡ command_is_built command.now }
 {
     match command {
-        Command::Block(block) => is_built(block_form(block.statements.as_slice())),
+        Command::Block(block) => block_is_built(block.statements.as_slice()),
         Command::Other(statement) => statement_is_built(statement),
     }
 }

@@ -48,7 +48,7 @@ fn scripts(rt: HostRuntime) -> Result<(), Fail> {
             Err((2, LoadShape)),
         ),
         ("@setup\n@load T\n\"\n@endload\n'", Err((2, NotBuilt))),
-        ("@setup\nBEGIN;\n", Err((2, NotBuilt))),
+        ("@setup\nBEGIN;\n@end", Err((2, OpenBlock))),
     ];
     for (text, want) in table {
         assert!(rt; read(alloc, text.as_bytes(), false) == Some(want), "{text}");
@@ -69,12 +69,20 @@ fn built_parts(rt: HostRuntime) -> Result<(), Fail> {
             Ok(176),
         ),
         (
+            "@setup\nBEGIN; INSERT INTO T VALUES (1); UPDATE T SET A = 2; DELETE FROM T; COMMIT;\n@end",
+            Ok(87),
+        ),
+        (
             "@session 2\nSHOW VIEW V;\n@order 2 2",
             Err((3, OrderTooLong)),
         ),
         ("@setup\nSELECT A FROM T AS OF SCN 1;", Err((2, NotBuilt))),
         (
-            "@setup\nCREATE TABLE T (A NUMBER UNIQUE);",
+            "@setup\nCREATE TABLE P (A NUMBER PRIMARY KEY);\nCREATE TABLE C (A NUMBER REFERENCES P, B NUMBER, UNIQUE (B), FOREIGN KEY (B) REFERENCES P (A));\n@end",
+            Ok(146),
+        ),
+        (
+            "@setup\nCREATE TABLE T (A NUMBER) PARTITION BY RANGE (A) (PARTITION P VALUES LESS THAN (9));",
             Err((2, NotBuilt)),
         ),
         (

@@ -283,7 +283,16 @@ fn texts_read(rt: HostRuntime) -> Result<(), Fail> {
         ),
         (" -- nothing\n", 0, None),
         ("\nINSERT INTO T VALUES (1)", 0, None),
-        ("\nBEGIN;\n^", 2, Some(ScriptKind::NotBuilt)),
+        (
+            "\nBEGIN;\nUPDATE T SET A = 1;\nDELETE FROM T;\nCOMMIT;",
+            0,
+            None,
+        ),
+        (
+            "\nBEGIN;\nALTER TABLE T DROP PARTITION P;",
+            3,
+            Some(ScriptKind::Misplaced),
+        ),
         (
             "\n\nSELECT FROM T;\nSHOW LOG T;\n",
             3,
