@@ -8,7 +8,9 @@ use Rattle.def_built.specs.Commands.{command_is_built}
 use Rattle.def_journal.specs.Journal.{event_of, reply_to}
 use Rattle.wh_core.proofs.Events.{After, IsAccepted}
 use Rattle.wh_core.specs.Calls.{install_of}
-use Rattle.wh_core.specs.Kept.{IsCore}
+use Rattle.wh_constraints.specs.Constraints.{AreRight}
+use Rattle.wh_core.specs.Kept.{IsCore, IsIndexed}
+use Rattle.wh_keys.specs.Coded.{Held}
 use Rattle.wh_table.specs.Stored.{Stored}
 use Rattle.wh_view.specs.Kept.{AllKept}
 use Rattle.wh_view_law.specs.Read.{IsRead}
@@ -19,11 +21,16 @@ accepts id command k is built read = record { built = ap command_is_built (sym i
 pub accepts_install : (id : Id) (command k : Command) → command ≡ k → IsTrue (command_is_built command) → IsRead k → IsAccepted (install_of id k)
 accepts_install id command k is built read = record { built = ap command_is_built (sym is) ∙ built; read = read }
 
--- the journal with one entry more
-pub closes : (trace before items : List Event) (note e : Event) (scn : ℕ) (tables : List Stored) (views : AllKept) (kept begun room : ℕ) (answer : Reply)
-    → After trace e scn tables views kept begun answer → before ≡ trace → note ≡ e → items ≡ before ++ note ∷ [] → begun ≤ room → IsCore items scn tables views kept begun room
-closes trace before items note e scn tables views kept begun room answer after same noted pushed fits =
-    subst (λ t. IsCore t scn tables views kept begun room) (sym (pushed ∙ (λ i. same i ++ noted i ∷ []))) (after.core room fits)
+-- the journal with one entry more, and the indexes
+pub closes : (trace before items : List Event) (note e : Event) (scn : ℕ) (tables : List Stored) (views : AllKept) (kept begun room : ℕ) (answer : Reply) (keys : Held)
+    → After trace e scn tables views kept begun answer → AreRight scn tables keys.now → keys.before ≡ keys.now → before ≡ trace → note ≡ e → items ≡ before ++ note ∷ [] → begun ≤ room
+    → IsIndexed items scn tables views kept begun room keys
+closes trace before items note e scn tables views kept begun room answer keys after right settled same noted pushed fits =
+    record {
+      core = subst (λ t. IsCore t scn tables views kept begun room) (sym (pushed ∙ (λ i. same i ++ noted i ∷ []))) (after.core room fits);
+      right = right;
+      settled = settled;
+    }
 
 pub answers : (trace now : List Event) (e asked : Event) (scn : ℕ) (tables : List Stored) (views : AllKept) (kept begun : ℕ) (answer told : Reply)
     → After trace e scn tables views kept begun answer → trace ≡ now → asked ≡ e → told ≡ answer → reply_to now asked ≡ Some told

@@ -1,6 +1,6 @@
 -- What a block makes of a core.
 use Rattle.std.proofs.Common.{◌≡◌, ◌≤◌, ◌+◌, ◌∙◌, sym, ap, refl, subst, arith, suc, ℕ, Bool, true, IsTrue, cond, List, [], ◌∷◌, length, map, ◌&&◌}
-use Rattle.std.proofs.lemmas.List.Elements.{All-cons, All-head, All-map, All-nil, All-tail}
+use Rattle.std.proofs.lemmas.List.Elements.{All-cons, All-head, All-nil, All-tail}
 use Rattle.std.specs.List.{All, filter, fold, list_all}
 use Rattle.std.specs.Prelude.{is_some, not}
 use Rattle.wh_base.specs.Tables.{TableChange}
@@ -11,7 +11,6 @@ use Rattle.wh_base.specs.declared.statements.Block.{Block}
 use Rattle.wh_base.specs.declared.statements.Command.TheVariants as commands
 use Rattle.wh_base.specs.declared.statements.Event.{Event}
 use Rattle.wh_base.specs.declared.statements.Id.{Id}
-use Rattle.wh_base.specs.declared.statements.Statement.{Statement}
 use Rattle.wh_base.specs.declared.tables.ColumnDef.{ColumnDef}
 use Rattle.wh_base.specs.declared.tables.Kind.{Kind}
 use Rattle.wh_base.specs.declared.tables.Kind.TheVariants.{Number, Text}
@@ -21,10 +20,9 @@ use Rattle.def_history.specs.History.{kept_versions}
 use Rattle.def_journal.specs.Committing.{Dues, after_block, changed_by, commit_result, committed, do_due, do_dues, is_due}
 use Rattle.def_journal.specs.Journal.{event_of, event_step, state_of}
 use Rattle.def_journal.specs.State.{refused, replied, with_catalog}
-use Rattle.wh_check.specs.Effects.{IsPlainDef, Makes, Stops, is_insert, is_sized_def, kind_is_sized}
+use Rattle.wh_check.specs.Effects.{Makes, Stops, is_sized_def, kind_is_sized}
 use Rattle.wh_core.proofs.Events.{After, IsAccepted, and_left, and_right, as_it_was, bounded, not_reading, oldest_reached, tells}
 use Rattle.wh_core.proofs.Known.{lookups, table_changes, version_laws}
-use Rattle.wh_core.proofs.Scanning.{Unscanned, unscanned}
 use Rattle.wh_core.proofs.Viewed.{IsOnDemand}
 use Rattle.wh_core.specs.Kept.{IsCore}
 use Rattle.wh_image.specs.Standing.{StandsFor}
@@ -41,11 +39,6 @@ none_due changes (k ∷ ks) h =
     ap (λ b. cond (b && (is_some k.view.point && (not k.view.suspended && changed_by changes k.view))) (k.view ∷ filter (is_due changes) (map (λ l. l.view) ks)) (filter (is_due changes) (map (λ l. l.view) ks)))
     (All-head IsOnDemand k ks h)
     ∙ none_due changes ks (All-tail IsOnDemand k ks h)
-
--- what is so of the definitions is so of the tables
-of_defs : (tables : List Stored) → All IsPlainDef (defs_of tables) → All (λ s. IsPlainDef s.def) tables
-of_defs [] h = All-nil (λ (s : Stored). IsPlainDef s.def)
-of_defs (s ∷ tables) h = All-cons (λ (t : Stored). IsPlainDef t.def) s tables (All-head IsPlainDef s.def (defs_of tables) h) (of_defs tables (All-tail IsPlainDef s.def (defs_of tables) h))
 
 module _ (trace : List Event) (id : Id) (b : Block) (scn : ℕ) (tables : List Stored) (views : AllKept) (kept begun room : ℕ) (core : IsCore trace scn tables views kept begun room)
     (accepted : IsAccepted (event_of id (commands.Block b))) where
@@ -79,7 +72,6 @@ module _ (trace : List Event) (id : Id) (b : Block) (scn : ℕ) (tables : List S
       scn2 after views
       (record {
         stands = subst (λ n. StandsFor n after views d) (sym makes.next) (table_changes.commits scn tables after views c p core.image.stands (bounded trace) makes.leaves);
-        plain = of_defs after (subst (All IsPlainDef) (sym makes.leaves.defs) (All-map IsPlainDef (λ (t : Stored). t.def) tables core.plain));
         on_demand = core.on_demand;
         scn_one = omega (arith, makes.next);
         made_one = omega arith;
@@ -97,7 +89,7 @@ module _ (trace : List Event) (id : Id) (b : Block) (scn : ℕ) (tables : List S
       (block_step ∙ ap (commit_result (state_of trace)) h.is ∙ ap (λ r. replied (state_of trace) (reply.Refuse r)) (sym h.refused_is))
       scn tables views (as_it_was trace e scn tables views kept begun room core accepted)
 
--- ---- what a block needs, and that it reads nothing
+-- ---- what a block needs
 
 sized_column : (name : List ℕ) (k : Kind) (b : Bool) → is_sized (record { name = name; kind = k; not_null = b }) ≡ true → kind_is_sized k ≡ true
 sized_column name (Number n) b h = h
@@ -122,10 +114,3 @@ tables_sized trace scn tables views kept begun room core sizes =
 
 pub versions_few : (trace : List Event) (scn : ℕ) (tables : List Stored) (views : AllKept) (kept begun room : ℕ) → IsCore trace scn tables views kept begun room → kept ≤ max_versions
 versions_few trace scn tables views kept begun room core = subst (λ n. n ≤ max_versions) (sym core.counted) (version_laws.few trace)
-
-pub commit_reads : (scn : ℕ) (tables : List Stored) (kept : ℕ) (ss : List Statement) (scn2 : ℕ) (after : List Stored) (rows versions read : ℕ)
-    → Makes scn tables kept ss scn2 after rows versions read → list_all is_insert ss ≡ true → read ≡ 0
-commit_reads scn tables kept ss scn2 after rows versions read makes inserts = makes.read_is ∙ subst Unscanned makes.is (unscanned (base_seen scn tables) kept ss inserts)
-
-pub stop_reads : (scn : ℕ) (tables : List Stored) (kept : ℕ) (ss : List Statement) (stopped : Refused) → Stops scn tables kept ss stopped → list_all is_insert ss ≡ true → stopped.read ≡ 0
-stop_reads scn tables kept ss stopped h inserts = ap (λ (r : Refused). r.read) h.refused_is ∙ subst Unscanned h.is (unscanned (base_seen scn tables) kept ss inserts)

@@ -18,7 +18,6 @@ use Rattle.def_history.specs.History.{kept_versions}
 use Rattle.def_journal.specs.Journal.{commands_of, event_step, reply_to, state_of}
 use Rattle.def_journal.specs.State.{only_reads, refused, replied, session_of, with_catalog}
 use Rattle.wh_core.proofs.Known.{change_laws, image_laws, state_push, version_laws, view_laws}
-use Rattle.wh_check.specs.Effects.{IsPlainDef}
 use Rattle.wh_core.specs.Kept.{IsCore, begun_count}
 use Rattle.wh_image.specs.Laws.{IsBounded}
 use Rattle.wh_image.specs.Standing.{StandsFor}
@@ -114,7 +113,6 @@ pub record After (trace : List Event) (e : Event) (scn : ℕ) (tables : List Sto
 -- what the event leaves of the image, in the catalog d
 pub record Stands (d : Catalog) (before made scn : ℕ) (tables : List Stored) (views : AllKept) : Type 0 where
   pub stands : StandsFor scn tables views d
-  pub plain : All (λ s. IsPlainDef s.def) tables
   pub on_demand : All (λ k. k.view.def.on_commit ≡ false) views.views
   pub scn_one : scn ≤ before + 1
   pub made_one : views.made ≤ made + 1
@@ -131,7 +129,6 @@ module _ (trace : List Event) (e : Event) (scn : ℕ) (tables : List Stored) (vi
           read = All-append (λ x. IsRead x.command) trace (e ∷ []) core.image.read (All-cons (λ x. IsRead x.command) e [] accepted.read (All-nil (λ x. IsRead x.command)));
         };
         built = built_more trace e core.built accepted.built;
-        plain = after.plain;
         on_demand = after.on_demand;
         counted = counted;
         enough = fewer;
@@ -160,7 +157,7 @@ module _ (trace : List Event) (e : Event) (scn : ℕ) (tables : List Stored) (vi
 
   -- the image is as it was
   pub as_it_was : Stands (catalog_of trace) scn views.made scn tables views
-  as_it_was = record { stands = core.image.stands; plain = core.plain; on_demand = core.on_demand; scn_one = omega arith; made_one = omega arith }
+  as_it_was = record { stands = core.image.stands; on_demand = core.on_demand; scn_one = omega arith; made_one = omega arith }
 
   -- a refusal changes nothing but the journal
   pub refuses : changes_versions e.command ≡ false → (code : Refusal) → event_step (state_of trace) e ≡ refused (state_of trace) 0 code

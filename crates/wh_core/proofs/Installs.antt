@@ -169,7 +169,6 @@ module _ (trace : List Event) (id : Id) (r : RefreshView) (scn : ℕ) (tables : 
           (changed n (refreshed kb.image.scn x.rows) views)
           (record {
             stands = view_changes.refreshes scn tables views c n kb.image.scn x.rows core.image.stands numbers stores;
-            plain = core.plain;
             on_demand = changed_on_demand (is_numbered n) (refreshed kb.image.scn x.rows) (λ l. refl) views.views core.on_demand;
             scn_one = omega arith;
             made_one = omega arith;

@@ -11,10 +11,11 @@ use Rattle.wh_trace.proofs.Growing as growing
 use Rattle.wh_trace.proofs.Installing as installing
 use Rattle.wh_trace.proofs.Pointing as pointing
 use Rattle.wh_trace.proofs.Preceding as preceding
+use Rattle.wh_trace.proofs.Rowing as rowing
 use Rattle.wh_trace.proofs.Seated as seated
 use Rattle.wh_trace.proofs.Traces as traces
 use Rattle.wh_trace.proofs.Versions as versions
-use Rattle.wh_trace.specs.Laws.{ChangeLaws, ImageLaws, InstallLaws, SessionLaws, VersionLaws, ViewLaws}
+use Rattle.wh_trace.specs.Laws.{ChangeLaws, ImageLaws, InstallLaws, RowLaws, SessionLaws, VersionLaws, ViewLaws}
 
 pub lookups : Lookups
 lookups = looking.lookups
@@ -39,6 +40,9 @@ version_laws = versions.version_laws
 
 pub view_laws : ViewLaws
 view_laws = pointing.view_laws
+
+pub row_laws : RowLaws
+row_laws = rowing.row_laws
 
 pub state_push : (trace : List Event) (e : Event) → state_of (trace ++ e ∷ []) ≡ state_after (state_of trace) e
 state_push = traces.state_push

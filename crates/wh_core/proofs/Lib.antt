@@ -1,4 +1,5 @@
 pub mod Known
+pub mod Indexing
 pub mod Events
 pub mod Beginning
 pub mod Tabled

@@ -123,7 +123,6 @@ module _ (trace : List Event) (id : Id) (scn : ℕ) (tables : List Stored) (view
       core.image.stands.scn_is (changed n (switched s.rewrite) views)
       (record {
         stands = view_changes.switches scn tables views c n s.rewrite core.image.stands;
-        plain = core.plain;
         on_demand = changed_on_demand (is_numbered n) (switched s.rewrite) (λ k. refl) views.views core.on_demand;
         scn_one = omega arith;
         made_one = omega arith;
@@ -147,7 +146,6 @@ module _ (trace : List Event) (id : Id) (scn : ℕ) (tables : List Stored) (view
       core.image.stands.scn_is (removed n views)
       (record {
         stands = view_changes.drops scn tables views c n core.image.stands;
-        plain = core.plain;
         on_demand = All-filter (λ k. not (is_numbered n k)) IsOnDemand views.views core.on_demand;
         scn_one = omega arith;
         made_one = omega arith;
@@ -169,7 +167,6 @@ module _ (trace : List Event) (id : Id) (scn : ℕ) (tables : List Stored) (view
       core.image.stands.scn_is (changed n unregistered views)
       (record {
         stands = view_changes.unregisters scn tables views c n core.image.stands;
-        plain = core.plain;
         on_demand = changed_on_demand (is_numbered n) unregistered (λ k. refl) views.views core.on_demand;
         scn_one = omega arith;
         made_one = omega arith;
@@ -246,7 +243,6 @@ module _ (trace : List Event) (id : Id) (s : NewView) (scn : ℕ) (tables : List
       (record {
         stands = subst (λ d. StandsFor scn tables (added (new_kept d (where_true (not s.deferred) scn) entries) views) (with_view c (new_view c s q))) (def_is q)
             (view_changes.creates scn tables views c s q entries core.image.stands stores);
-        plain = core.plain;
         on_demand = All-append IsOnDemand views.views (new_kept (asked_def tables views s q) (where_true (not s.deferred) scn) entries ∷ []) core.on_demand
             (All-cons IsOnDemand (new_kept (asked_def tables views s q) (where_true (not s.deferred) scn) entries) [] on_demand (All-nil IsOnDemand));
         scn_one = omega arith;

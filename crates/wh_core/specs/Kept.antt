@@ -7,7 +7,8 @@ use Rattle.def_history.specs.History.{kept_versions}
 use Rattle.def_journal.specs.Journal.{commands_of, state_of}
 use Rattle.def_journal.specs.State.{Session}
 use Rattle.wh_answer.specs.Over.{IsImageOf}
-use Rattle.wh_check.specs.Effects.{IsPlainDef}
+use Rattle.wh_constraints.specs.Constraints.{AreRight}
+use Rattle.wh_keys.specs.Coded.{Held}
 use Rattle.wh_table.specs.Stored.{Stored}
 use Rattle.wh_trace.specs.Reached.{catalog_of}
 use Rattle.wh_view.specs.Kept.{AllKept}
@@ -16,13 +17,12 @@ use Rattle.wh_view.specs.Kept.{AllKept}
 abbrev pub begun_count : List Session → ℕ
 begun_count sessions = count_by (λ x. is_some x.begun) sessions
 
--- The image is the catalog that the trace leaves. The commands are of forms that are built, and so there are no keys and no
--- views that are refreshed at a commit. So many row versions are kept, and there is room for the installs of all refreshes
--- that have begun.
+-- The image is the catalog that the trace leaves. The commands are of forms that are built, and so there are no views that
+-- are refreshed at a commit. So many row versions are kept, and there is room for the installs of all refreshes that have
+-- begun.
 pub record IsCore (trace : List Event) (scn : ℕ) (tables : List Stored) (views : AllKept) (kept begun room : ℕ) : Type 0 where
   pub image : IsImageOf trace scn tables views
   pub built : commands_are_built (commands_of trace) ≡ true
-  pub plain : All (λ s. IsPlainDef s.def) tables
   pub on_demand : All (λ k. k.view.def.on_commit ≡ false) views.views
   pub counted : kept ≡ kept_versions (catalog_of trace)
   pub enough : begun_count (state_of trace).sessions ≤ begun
@@ -30,3 +30,9 @@ pub record IsCore (trace : List Event) (scn : ℕ) (tables : List Stored) (views
   -- each event raises the SCN and the number of views by one at the most
   pub scn_within : scn ≤ length trace
   pub made_within : views.made ≤ length trace
+
+-- The same with the indexes: they are those of the tables, whose keys and foreign keys hold, and no block is open.
+pub record IsIndexed (trace : List Event) (scn : ℕ) (tables : List Stored) (views : AllKept) (kept begun room : ℕ) (keys : Held) : Type 0 where
+  pub core : IsCore trace scn tables views kept begun room
+  pub right : AreRight scn tables keys.now
+  pub settled : keys.before ≡ keys.now

@@ -14,14 +14,17 @@ use wh_base::reads::Reads;
 use wh_base::replies::{Done, Refusal, Refused, Reply};
 use wh_base::statements::{Command, Id, Statement, TableStatement, ViewStatement};
 use wh_image::Image;
+use wh_keys::Keys;
 
 /// The catalog, which contracts see as its trace: the entries of its journal with their commands. What it keeps is the
-/// image that the definitions make of that trace, how many row versions it has, and room for the install of each refresh
-/// that has begun.
+/// image that the definitions make of that trace, the indexes of its tables, how many row versions it has, and room for the
+/// install of each refresh that has begun.
 #[derive(Drop)]
 pub struct Core<L> {
     pub(crate) notes: Vec<Noted>,
     pub(crate) image: Image<L>,
+    // the indexes of the image's tables
+    pub(crate) keys: Keys,
     // how many row versions are kept
     pub(crate) kept: u64,
     // for how many installs of refreshes there is room
@@ -33,7 +36,7 @@ impl<L> Model for Core<L> {
     ghost use Rattle.std.specs.Coded.{coded_list};
     ghost use Rattle.wh_base.specs.declared.statements.Event.{Event};
     ghost use Rattle.wh_base.specs.contracts.statements.Event.{the_row};
-    ghost use Rattle.wh_core.specs.Kept.{IsCore};
+    ghost use Rattle.wh_core.specs.Kept.{IsIndexed};
 
     ghost Value = { List Event };
 
@@ -41,7 +44,7 @@ impl<L> Model for Core<L> {
 
     ghost view = { λ c. c.notes.items };
 
-    ghost invariant = { λ c. IsCore c.notes.items c.image.tables.scn c.image.tables.tables.items c.image.views c.kept c.begun (vec_capacity c.notes - vec_len c.notes) };
+    ghost invariant = { λ c. IsIndexed c.notes.items c.image.tables.scn c.image.tables.tables.items c.image.views c.kept c.begun (vec_capacity c.notes - vec_len c.notes) c.keys };
 }
 
 impl<L> Core<L> {
@@ -53,6 +56,7 @@ impl<L> Core<L> {
         Ok(Core {
             notes: Vec::new(alloc),
             image: Image::new(alloc)?,
+            keys: Keys::new(alloc),
             kept: 0,
             begun: 0,
         })

@@ -19,6 +19,9 @@ use wh_base::statements::{Command, Id, Statement};
 use wh_core::{Begun, Core};
 use wh_render::push_reply;
 
+/// Where a counter stands above so many rows, no more are read: what is read for one command is less than what is left up to 2^64.
+const MOST_READ: u64 = 0x8000_0000_0000_0000;
+
 /// A refresh that has begun: its command, what its begin kept, and what was computed over its image, `None` where there was no such view.
 #[derive(Drop)]
 pub struct Pending {
@@ -36,7 +39,8 @@ pub enum Part {
 }
 
 /// Takes the first part of a command, and writes its reply at the end of the text; or it gives the refresh that has begun, and writes nothing. An error
-/// says that memory ran out; then the core's trace may have the event of the part, and the text a part of the reply.
+/// says that memory ran out, that the counter stands above 2^63 rows, or one of the other things that `Core::commit` names, which no run brings about; then
+/// the core's trace may have the event of the part, the text a part of the reply, and some rows may have been read.
 pub fn start<L>(
     alloc: Global,
     core: &mut Core<L>,
@@ -47,11 +51,9 @@ pub fn start<L>(
 ) -> Result<Option<Pending>, AllocError>
     requires built { IsTrue (command_is_built command) }
     requires read { IsRead command }
-    requires room { reads.old ≤ 2 ^ 63 }
     ensures trace { OnOk result (core.new ≡ core.old ++ event_of id command ∷ []) }
     ensures started { IfOk result (λ pending. IsStarted core.old core.new id command pending text.old.items text.new.items reads.old reads.new) }
     ensures least { reads.old ≤ reads.new }
-    ensures most { reads.new ≤ reads.old + most_reads }
     ensures err { OnErr result (Grows core.old core.new) }
 {
     match first_part(alloc, core, id, command.get(), reads)? {
@@ -84,7 +86,9 @@ pub fn finish<L>(core: &mut Core<L>, pending: Pending, text: &mut Vec<u8>) -> Re
     Ok(())
 }
 
-/// Takes the first part of a command. An error says that memory ran out; then the core's trace may have its event.
+/// Takes the first part of a command. An error says that memory ran out, that the counter stands above `MOST_READ`, or what else `Core::commit` names; then
+/// the core's trace may have its event, and some rows may have been read.
+#[tactic(auto, using(crate::proofs::Growing::growing))]
 fn first_part<L>(
     alloc: Global,
     core: &mut Core<L>,
@@ -94,16 +98,17 @@ fn first_part<L>(
 ) -> Result<Part, AllocError>
     requires built { IsTrue (command_is_built command.now) }
     requires read { IsRead command.now }
-    requires room { reads.old ≤ 2 ^ 63 }
     ensures trace { OnOk result (core.new ≡ core.old ++ event_of id command.now ∷ []) }
     ensures first { IfOk result (λ part. IsFirst core.old core.new id command.now part reads.old reads.new) }
     ensures least { reads.old ≤ reads.new }
-    ensures most { reads.new ≤ reads.old + most_reads }
     ensures err { OnErr result (Grows core.old core.new) }
 {
+    if reads.count() > MOST_READ {
+        return Err(AllocError);
+    }
     match command {
         Command::Block(block) => {
-            let reply = core.commit(alloc, id, command, block)?;
+            let reply = core.commit(alloc, id, command, block, reads)?;
             Ok(Part::Replied(reply))
         }
         Command::Other(statement) => {

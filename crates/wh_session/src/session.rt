@@ -1,5 +1,4 @@
-ghost use Rattle.std.specs.Prelude.{◌≡◌, ◌≤◌, ◌+◌, ◌^◌, [], IfOk, OnErr, false, true};
-ghost use Rattle.wh_answer.specs.Answered.{most_reads};
+ghost use Rattle.std.specs.Prelude.{◌≡◌, ◌≤◌, [], IfOk, OnErr, false, true};
 ghost use Rattle.wh_session.specs.Run.{CanRun, Continues, Grows, Takes, begun};
 
 use crate::parts::{Pending, finish, start};
@@ -79,10 +78,12 @@ impl<L> Session<L> {
     /// Takes the session's next part: the event of the part is the next of the core's trace, and its reply, where the part gives one, is the definition's. It
     /// answers false exactly where no part is left; then nothing changes. A refresh is computed at its begin, over the image that is taken there.
     ///
-    /// The core's trace has to go on from what it was at the session's last part, without an event of the session. An error says that memory ran out; then the
-    /// core's trace may have the event of the part, and the session must not be run again.
+    /// The core's trace has to go on from what it was at the session's last part, without an event of the session. An error says that memory ran out, that
+    /// the counter stands above 2^63 rows, or one of the other things that `Core::commit` names, which no run brings about; then the core's trace may have the
+    /// event of the part, and the session must not be run again.
     ///
-    /// `reads` rises by the base rows that the reply says were read; for a refresh it rises at the begin by those of the install's reply.
+    /// `reads` rises by the base rows that the reply says were read; for a refresh it rises at the begin by those of the install's reply. After an error it
+    /// may have risen by more or less.
     pub fn run_step(
         &mut self,
         alloc: Global,
@@ -90,14 +91,12 @@ impl<L> Session<L> {
         reads: &mut Reads<L>,
     ) -> Result<bool, AllocError>
         requires goes_on { Continues self.old core.old }
-        requires room { reads.old ≤ 2 ^ 63 }
         ensures none { IfOk result (λ took. took ≡ false → self.old.left ≡ []) }
         ensures same { IfOk result (λ took. took ≡ false → self.new ≡ self.old) }
         ensures same_core { IfOk result (λ took. took ≡ false → core.new ≡ core.old) }
         ensures unread { IfOk result (λ took. took ≡ false → reads.new ≡ reads.old) }
         ensures takes { IfOk result (λ took. took ≡ true → Takes self.old self.new core.old core.new reads.old reads.new) }
         ensures least { reads.old ≤ reads.new }
-        ensures most { reads.new ≤ reads.old + most_reads }
         ensures err { OnErr result (Grows core.old core.new) }
     {
         if let Some(pending) = self.pending.take() {

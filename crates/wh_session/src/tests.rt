@@ -10,9 +10,9 @@ use wh_base::reads::Reads;
 use wh_base::seq::Seq;
 use wh_base::shared::Shared;
 use wh_base::statements::{
-    Asked, Block, ChangeStatement, Command, InsertRows, Method, NewColumn, NewTable, NewView,
-    RawKind, RefreshView, Section, ShowStatement, Statement, TablePart, TableStatement,
-    ViewStatement,
+    Asked, Block, ChangeStatement, Command, DeleteRows, InsertRows, Method, NewColumn, NewTable,
+    NewValue, NewView, RawKind, RefreshView, Section, SetColumn, ShowStatement, Statement,
+    TablePart, TableStatement, UpdateRows, ViewStatement,
 };
 use wh_base::txt::Txt;
 use wh_base::values::Literal;
@@ -70,17 +70,70 @@ fn table(alloc: Global) -> Result<Command, AllocError>
 }
 
 /// INSERT INTO T VALUES (7)
+fn seven(alloc: Global) -> Result<InsertRows, AllocError> {
+    let row = one(alloc, Some(Literal::Number(Wide::new(7))))?;
+    Ok(InsertRows {
+        table: Txt::from_slice(alloc, b"T")?,
+        columns: None,
+        rows: one(alloc, row)?,
+    })
+}
+
+/// UPDATE T SET A = A + 1
+fn raise(alloc: Global) -> Result<UpdateRows, AllocError> {
+    let set = SetColumn {
+        column: Txt::from_slice(alloc, b"A")?,
+        value: NewValue::Moved(Txt::from_slice(alloc, b"A")?, 1),
+    };
+    Ok(UpdateRows {
+        table: Txt::from_slice(alloc, b"T")?,
+        sets: one(alloc, set)?,
+        conditions: Seq::new(alloc),
+    })
+}
+
+/// An INSERT by itself.
 fn insert(alloc: Global) -> Result<Command, AllocError>
     ensures built { IfOk result (λ k. IsTrue (command_is_built k)) }
     ensures read { IfOk result IsRead }
 {
-    let row = one(alloc, Some(Literal::Number(Wide::new(7))))?;
-    let rows = InsertRows {
-        table: Txt::from_slice(alloc, b"T")?,
-        columns: None,
-        rows: one(alloc, row)?,
-    };
+    let rows = seven(alloc)?;
     let statements = one(alloc, Statement::Change(ChangeStatement::Insert(rows)))?;
+    Ok(Command::Block(Block { statements }))
+}
+
+/// An UPDATE by itself.
+fn update(alloc: Global) -> Result<Command, AllocError>
+    ensures built { IfOk result (λ k. IsTrue (command_is_built k)) }
+    ensures read { IfOk result IsRead }
+{
+    let rows = raise(alloc)?;
+    let statements = one(alloc, Statement::Change(ChangeStatement::Update(rows)))?;
+    Ok(Command::Block(Block { statements }))
+}
+
+/// DELETE FROM T
+fn delete(alloc: Global) -> Result<Command, AllocError>
+    ensures built { IfOk result (λ k. IsTrue (command_is_built k)) }
+    ensures read { IfOk result IsRead }
+{
+    let rows = DeleteRows {
+        table: Txt::from_slice(alloc, b"T")?,
+        conditions: Seq::new(alloc),
+    };
+    let statements = one(alloc, Statement::Change(ChangeStatement::Delete(rows)))?;
+    Ok(Command::Block(Block { statements }))
+}
+
+/// BEGIN; the INSERT; the UPDATE; COMMIT
+fn block(alloc: Global) -> Result<Command, AllocError>
+    ensures built { IfOk result (λ k. IsTrue (command_is_built k)) }
+    ensures read { IfOk result IsRead }
+{
+    let rows = seven(alloc)?;
+    let mut statements = one(alloc, Statement::Change(ChangeStatement::Insert(rows)))?;
+    let rows = raise(alloc)?;
+    statements.push(Statement::Change(ChangeStatement::Update(rows)))?;
     Ok(Command::Block(Block { statements }))
 }
 
@@ -137,6 +190,9 @@ fn command(alloc: Global, letter: u8) -> Result<Command, AllocError>
     match letter {
         b't' => Ok(table(alloc)?),
         b'i' => Ok(insert(alloc)?),
+        b'u' => Ok(update(alloc)?),
+        b'd' => Ok(delete(alloc)?),
+        b'b' => Ok(block(alloc)?),
         b'v' => Ok(view(alloc)?),
         b'r' => Ok(refresh(alloc)?),
         b's' => Ok(show(alloc)?),
@@ -171,9 +227,9 @@ fn setup(alloc: Global, letters: &[u8]) -> Result<Section, AllocError>
     Ok(section)
 }
 
-/// What the setup prints that has these commands.
+/// What the setup prints that has these commands, and how many rows it reads.
 #[tactic(auto, using(crate::proofs::Asking::runs))]
-fn printed(alloc: Global, letters: &[u8]) -> Result<Vec<u8>, AllocError> {
+fn printed(alloc: Global, letters: &[u8]) -> Result<(Vec<u8>, u64), AllocError> {
     let mut core = Core::new(alloc)?;
     let mut reads = Reads::new(());
     let mut session = Session::new(alloc, setup(alloc, letters)?);
@@ -183,15 +239,16 @@ fn printed(alloc: Global, letters: &[u8]) -> Result<Vec<u8>, AllocError> {
             break;
         }
     }
-    Ok(session.into_text())
+    Ok((session.into_text(), reads.count()))
 }
 
-/// Letters, and what is printed for them.
-const PRINTED: [(&[u8], &[u8]); 3] = [
-    (b"", b""),
+/// Letters, what is printed for them, and how many rows are read.
+const PRINTED: [(&[u8], &[u8], u64); 4] = [
+    (b"", b"", 0),
     (
         b"tr",
         b"0.1 DONE SCN 1 READ 0\n0.2 REFUSED MV-02 V READ 0\n",
+        0,
     ),
     (
         b"tivsrsq",
@@ -205,16 +262,33 @@ const PRINTED: [(&[u8], &[u8]); 3] = [
 0.7 ANSWER SCN 2 PLAN FULL V@2 READ 0 ROWS 1
 7|1
 ",
+        1,
+    ),
+    (
+        b"tiubqdqu",
+        b"0.1 DONE SCN 1 READ 0
+0.2 COMMITTED SCN 2 ROWS 1 READ 0 VIEWS 0
+0.3 COMMITTED SCN 3 ROWS 1 READ 1 VIEWS 0
+0.4 COMMITTED SCN 4 ROWS 3 READ 2 VIEWS 0
+0.5 ANSWER SCN 4 PLAN BASE READ 2 ROWS 2
+8|1
+9|1
+0.6 COMMITTED SCN 5 ROWS 2 READ 2 VIEWS 0
+0.7 ANSWER SCN 5 PLAN BASE READ 0 ROWS 0
+0.8 COMMITTED SCN 6 ROWS 0 READ 0 VIEWS 0
+",
+        7,
     ),
 ];
 
-/// A setup with a view, a refresh of it in two parts, and an answer from it.
+/// A setup with a view, a refresh of it in two parts, and an answer from it; and one with statements that scan their table.
 #[test]
 fn setups(rt: HostRuntime) -> Result<(), Fail> {
     let alloc = rt.alloc();
-    for (letters, wanted) in PRINTED {
-        let text = printed(alloc, letters)?;
+    for (letters, wanted, rows) in PRINTED {
+        let (text, read) = printed(alloc, letters)?;
         assert!(rt; text.as_slice() == wanted);
+        assert_eq!(rt; read, rows);
     }
     Ok(())
 }

@@ -1,12 +1,10 @@
 -- The counters of the sessions, a part after another.
-use Rattle.std.proofs.Common.{◌≡◌, ◌∙◌, sym, ap, refl, arith, ℕ, suc, zero, ◌+◌, ◌*◌, ◌^◌, ◌<◌, ◌≤◌, ◌==◌, Bool, true, false, cond, List, [], ◌∷◌, ◌++◌, length, map, get_or, slice_get, Some}
-use Rattle.std.specs.List.{All, enumerate_from}
+use Rattle.std.proofs.Common.{◌≡◌, ◌∙◌, sym, ap, refl, arith, ℕ, suc, zero, ◌+◌, ◌<◌, ◌==◌, Bool, true, false, cond, List, [], ◌∷◌, ◌++◌, length, map, get_or, slice_get, Some}
+use Rattle.std.specs.List.{enumerate_from}
 use Rattle.std.specs.Prelude.{slice_index, slice_set}
-use Rattle.std.proofs.lemmas.Bool.{eq-eqb, eqb-false, eqb-true, ne_eqb}
-use Rattle.std.proofs.lemmas.List.{get_or-set_same, get_or-set_other, length-set}
+use Rattle.std.proofs.lemmas.Bool.{eq-eqb, eqb-false, ne_eqb}
 use Rattle.std.proofs.lemmas.List.Sums.{sum_by-append, sum_by-set}
 use Rattle.std.proofs.lemmas.Option.{get_or_from_slice_get, slice_get_within}
-use Rattle.wh_answer.specs.Answered.{most_reads}
 use Rattle.wh_base.specs.declared.statements.Entry.{Entry}
 use Rattle.wh_base.specs.declared.statements.Script.{Script}
 use Rattle.def_journal.specs.Journal.{Told, given_by, replies_of, reply_to, trace_of}
@@ -103,30 +101,3 @@ counted_next script front e place count runs run after old reads there own kept 
     let raise : g n + run.ahead ≡ f n + (reads_of (given_by (event_at script e) (reply_to (trace_of script front) (event_at script e))) + after.ahead) = read_own script front e place runs run after there own kept in
     let is : count ≡ get_or old n 0 + g n = omega (arith, before, raise, read) in
     ap (λ cs. slice_set cs n count) counted ∙ set_raised f g n 0 n count old (omega arith) within (read_other script front e place runs run after there own kept) is
-
--- ---- room
-
--- each counter is at most so great
-pub record AreLow (reads : List ℕ) (parts : ℕ) : Type 0 where
-  pub low : All (λ n. n ≤ 2 ^ 62 + parts * most_reads) reads
-
-pub low_start : (reads : List ℕ) → All (λ n. n ≤ 2 ^ 62) reads → AreLow reads 0
-low_start reads h = record { low = λ k d within. omega (arith, h k d within) }
-
-pub low_next : (reads : List ℕ) (parts n count : ℕ) → n < length reads → AreLow reads parts → count ≤ slice_index reads n + most_reads → AreLow (slice_set reads n count) (parts + 1)
-low_next reads parts n count within h most = record { low = λ k d inside. by k d (omega (arith, inside, length-set reads n count)) (k == n) refl }
-  where
-    here : get_or reads n 0 ≤ 2 ^ 62 + parts * most_reads
-    here = h.low n 0 within
-
-    by : (k d : ℕ) → k < length reads → (b : Bool) → (k == n) ≡ b → get_or (slice_set reads n count) k d ≤ 2 ^ 62 + (parts + 1) * most_reads
-    by k d inside true is =
-        let same : k ≡ n = eqb-true k n is in
-        let value : get_or (slice_set reads n count) k d ≡ count = ap (λ j. get_or (slice_set reads n count) j d) same ∙ get_or-set_same reads n count d within in
-        omega (arith, value, here, most)
-    by k d inside false is =
-        let value : get_or (slice_set reads n count) k d ≡ get_or reads k d = get_or-set_other reads n k count d (eqb-false k n is) in
-        omega (arith, value, h.low k d inside)
-
-pub low_at : (reads : List ℕ) (parts n : ℕ) → n < length reads → parts < 2 ^ 32 → AreLow reads parts → slice_index reads n ≤ 2 ^ 63
-low_at reads parts n within few h = omega (arith, h.low n 0 within, few)

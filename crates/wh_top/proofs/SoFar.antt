@@ -2,7 +2,7 @@
 use Rattle.std.proofs.Common.{◌≡◌, ◌∙◌, sym, ap, subst, refl, arith, ℕ, suc, zero, ◌+◌, ◌<◌, ◌≤◌, ◌==◌, Bool, true, false, cond, List, [], ◌∷◌, ◌++◌, length, map, get_or, take, drop, find, Some}
 use Rattle.std.specs.List.{All, enumerate_from}
 use Rattle.std.specs.Prelude.{slice_index, slice_set}
-use Rattle.std.proofs.lemmas.List.{append_assoc, length-append, length-set, take_more}
+use Rattle.std.proofs.lemmas.List.{append_assoc, length-set, take_more}
 use Rattle.std.proofs.lemmas.List.Sums.{sum_by-cons}
 use Rattle.wh_base.specs.Parts.{section_entries}
 use Rattle.wh_base.specs.declared.statements.Entry.{Entry}
@@ -16,7 +16,7 @@ use Rattle.wh_order.proofs.Journals.{next_part}
 use Rattle.wh_session.specs.Run.{Run, Takes, begun}
 use Rattle.wh_top.specs.Running.{AreAsFar, CountedSoFar, HasNext, IsAsFar, IsRunnable, IsTaken, ahead_of, most_sessions, place_of, read_by}
 use Rattle.wh_top.proofs.Apart.{apart_of}
-use Rattle.wh_top.proofs.Counts.{AreLow, counted_next, low_next}
+use Rattle.wh_top.proofs.Counts.{counted_next}
 use Rattle.wh_top.proofs.Parts.{all_far, event_at, event_is, found_own, left_next, own_far, run_found, trace_is}
 
 -- The parts of the front are taken: the trace is that of the front, and the sessions and the counters are as far.
@@ -24,7 +24,6 @@ pub record SoFar (script : Script) (front : List Entry) (trace : List Event) (ru
   pub trace_is : trace ≡ trace_of script front
   pub far : AreAsFar script front script.sections runs
   pub counted : CountedSoFar script front runs old reads
-  pub low : AreLow reads (length front)
   pub many : length reads ≡ 65
 
 -- ---- at the start
@@ -60,12 +59,11 @@ none_raised f k (c ∷ cs) none =
     let here : c ≡ c + f k = omega (arith, none k) in
     ap (λ x. x ∷ cs) here ∙ ap (λ xs. (c + f k) ∷ xs) (none_raised f (k + 1) cs none)
 
-pub start_so_far : (script : Script) (runs : List Run) (reads : List ℕ) → runs ≡ map begun script.sections → AreLow reads 0 → length reads ≡ 65 → SoFar script [] [] runs reads reads
-start_so_far script runs reads is low many = subst (λ rs. SoFar script [] [] rs reads reads) (sym is) (record {
+pub start_so_far : (script : Script) (runs : List Run) (reads : List ℕ) → runs ≡ map begun script.sections → length reads ≡ 65 → SoFar script [] [] runs reads reads
+start_so_far script runs reads is many = subst (λ rs. SoFar script [] [] rs reads reads) (sym is) (record {
   trace_is = refl;
   far = begun_far script script.sections;
   counted = none_raised (read_by script [] (map begun script.sections)) 0 reads (λ n. omega (arith, begun_ahead n script.sections));
-  low = low;
   many = many;
 })
 
@@ -127,12 +125,10 @@ step_so_far script front rest e trace trace_after runs runs_after old reads read
     let number : taken.run.section.session ≡ n = ap (λ t. t.session) here.section_is ∙ own in
     let low_number : n ≤ most_sessions = entry_within script front rest e runnable legal in
     let raise : taken.count + taken.run.ahead ≡ read + (reads_of (given_by (event_at script e) (reply_to (trace_of script front) (event_at script e))) + taken.after.ahead) = takes.read_is ∙ sym (ap (λ x. read + (reads_of (given_by x (reply_to (trace_of script front) x)) + taken.after.ahead)) event) in
-    let longer : length front + 1 ≡ length (front ++ e ∷ []) = omega (arith, length-append front (e ∷ [])) in
     let after : SoFar script (front ++ e ∷ []) trace_after (slice_set runs place taken.after) old (slice_set reads n taken.count) = record {
       trace_is = trace_is script front e taken.run taken.after trace_after read taken.count next own here takes;
       far = all_far script front e s taken.after script.sections runs (apart_of script runnable.differ) far.far next.found (own_far script front e taken.run taken.after trace_after read taken.count next own here takes);
       counted = counted_next script front e place taken.count runs taken.run taken.after old reads taken.there number takes.section_is (omega (arith, many, low_number)) far.counted raise;
-      low = subst (AreLow (slice_set reads n taken.count)) longer (low_next reads (length front) n taken.count (omega (arith, far.many, low_number)) far.low taken.most);
       many = length-set reads n taken.count ∙ far.many;
     } in
     subst (λ rs. SoFar script (front ++ e ∷ []) trace_after rs old reads_after) (sym taken.runs_are) (subst (λ cs. SoFar script (front ++ e ∷ []) trace_after (slice_set runs place taken.after) old cs) (sym taken.reads_are) after)
@@ -155,11 +151,6 @@ pub front_at : (journal entries : List Entry) (i : ℕ) (d : Entry) → entries 
 front_at journal entries i d same within =
     ap (λ xs. take i journal ++ get_or xs i d ∷ []) same
     ∙ sym (take_more journal i d (subst (λ xs. i < length xs) same within))
-
-pub front_short : (xs : List Entry) (i : ℕ) → length (take i xs) ≤ length xs
-front_short xs zero = omega arith
-front_short [] (suc i) = omega arith
-front_short (x ∷ xs) (suc i) = omega (arith, front_short xs i)
 
 -- ---- the sessions that are made
 

@@ -1,7 +1,6 @@
 -- How far the sessions of a script have come.
 use Rattle.std.specs.List.{All, enumerate_from}
 use Rattle.std.specs.Prelude.{◌≡◌, ◌≤◌, ◌+◌, ◌==◌, List, None, Some, [], ◌∷◌, cond, drop, length, map, slice_get, slice_index, slice_set, suc, sum_by, true, ℕ}
-use Rattle.wh_answer.specs.Answered.{most_reads}
 use Rattle.wh_base.specs.Parts.{section_entries}
 use Rattle.wh_base.specs.declared.statements.Entry.{Entry}
 use Rattle.wh_base.specs.declared.statements.Script.{Script}
@@ -66,7 +65,7 @@ pub record HasNext (n : ℕ) (runs : List Run) (trace : List Event) : Type 0 whe
   pub goes_on : Continues run trace
 
 -- Of these sessions the one with the number n alone has taken its next part, and its counter alone rose: by the base rows
--- that were read for that part, which are at most `most_reads`.
+-- that were read for that part.
 pub record IsTaken (n : ℕ) (runs runs_after : List Run) (trace trace_after : List Event) (reads reads_after : List ℕ) : Type 0 where
   pub run : Run
   pub there : slice_get runs (place_of n runs) ≡ Some run
@@ -75,4 +74,3 @@ pub record IsTaken (n : ℕ) (runs runs_after : List Run) (trace trace_after : L
   pub count : ℕ
   pub reads_are : reads_after ≡ slice_set reads n count
   pub takes : Takes run after trace trace_after (slice_index reads n) count
-  pub most : count ≤ slice_index reads n + most_reads

@@ -55,6 +55,11 @@ const FAULTS: &[(&str, u64, ScriptKind)] = &[
     ("@setup\n@endload\n", 2, ScriptKind::Misplaced),
     ("@load T\n@endload\n", 1, ScriptKind::Misplaced),
     (" ;\n@end\n", 1, ScriptKind::Misplaced),
+    (
+        "@setup\nBEGIN;\nSHOW VIEW V;\nCOMMIT;\n",
+        3,
+        ScriptKind::Misplaced,
+    ),
     ("\nSELECT\n{;\n", 2, ScriptKind::Misplaced),
     ("@session 0\n", 1, ScriptKind::SessionNumber),
     ("@setup\n@session 65\n", 2, ScriptKind::SessionNumber),
@@ -87,6 +92,11 @@ const FAULTS: &[(&str, u64, ScriptKind)] = &[
         ScriptKind::OpenStatement,
     ),
     ("@setup\nSELECT A\n@order 5\n", 2, ScriptKind::OpenStatement),
+    (
+        "@setup\nBEGIN;\nDELETE FROM T;\n@end\n",
+        2,
+        ScriptKind::OpenBlock,
+    ),
     ("@setup\n@load T\n1,2\n", 2, ScriptKind::OpenLoad),
     ("@setup\n@load T\n@end\n", 2, ScriptKind::OpenLoad),
     ("@setup\n\n@load T\n@endload x\n", 3, ScriptKind::OpenLoad),
@@ -121,17 +131,12 @@ const FAULTS: &[(&str, u64, ScriptKind)] = &[
     ("@end\n\r", 2, ScriptKind::AfterEnd),
     ("@end\r\n \t\r\n;\n", 3, ScriptKind::AfterEnd),
     (
-        "@setup\nCREATE TABLE T (A NUMBER);\nBEGIN; COMMIT;\n@end\n",
-        3,
-        ScriptKind::NotBuilt,
-    ),
-    (
         "@setup\n@load T\n1\n@endload\n@end\n",
         2,
         ScriptKind::NotBuilt,
     ),
     (
-        "@setup\nCREATE TABLE T (A NUMBER PRIMARY KEY);\n",
+        "@setup\nCREATE TABLE T (A NUMBER) PARTITION BY RANGE (A) (PARTITION P VALUES LESS THAN (9));\n",
         2,
         ScriptKind::NotBuilt,
     ),
@@ -141,7 +146,7 @@ const FAULTS: &[(&str, u64, ScriptKind)] = &[
         ScriptKind::NotBuilt,
     ),
     (
-        "@setup\n@session 1\nDELETE FROM T;\n@order 1\n@end\n",
+        "@setup\n@session 1\nDROP DIMENSION D;\n@order 1\n@end\n",
         3,
         ScriptKind::NotBuilt,
     ),

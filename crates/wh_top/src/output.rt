@@ -1,4 +1,4 @@
-ghost use Rattle.std.specs.Prelude.{◌≡◌, ◌≤◌, ◌^◌, Some, All, IfOk, OnOk, flat_map, length};
+ghost use Rattle.std.specs.Prelude.{◌≡◌, Some, IfOk, OnOk, flat_map, length};
 ghost use Rattle.wh_top.specs.Running.{IsRunnable};
 ghost use Rattle.wh_top.specs.Top.{Counted, output_of};
 
@@ -11,7 +11,8 @@ use wh_order::order_of;
 use wh_render::push_journal;
 use wh_session::Session;
 
-/// The transcript of a script that is run in its own order. An error says that memory ran out.
+/// The transcript of a script that is run in its own order. An error says that memory ran out, or what else `take_parts`
+/// names.
 ///
 /// The counter of each session rises by the base rows that the replies to it say were read.
 pub fn output<L>(
@@ -21,7 +22,6 @@ pub fn output<L>(
 ) -> Result<Vec<u8>, AllocError>
     requires runnable { IsRunnable script }
     requires counters { length reads.old ≡ 65 }
-    requires room { All (λ n. n ≤ 2 ^ 62) reads.old }
     ensures output { IfOk result (λ text. text.items ≡ output_of (Some script)) }
     ensures counted { OnOk result (Counted reads.old reads.new (Some script)) }
 {

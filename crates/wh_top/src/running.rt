@@ -1,4 +1,4 @@
-ghost use Rattle.std.specs.Prelude.{◌≡◌, ◌≤◌, ◌<◌, ◌^◌, All, IfOk, OnOk, length, map, slice_index, true};
+ghost use Rattle.std.specs.Prelude.{◌≡◌, ◌<◌, IfOk, OnOk, length, map, true};
 ghost use Rattle.def_journal.specs.Journal.{is_legal};
 ghost use Rattle.wh_session.specs.Run.{begun};
 ghost use Rattle.wh_top.specs.Running.{AreAsFar, CountedSoFar, HasNext, IsRunnable, IsTaken, place_of};
@@ -23,7 +23,8 @@ pub fn sessions_of<L>(alloc: Global, script: Script) -> Result<Vec<Session<L>>, 
     Ok(sessions)
 }
 
-/// Takes the parts of a legal journal one after another, from the empty catalog on. An error says that memory ran out.
+/// Takes the parts of a legal journal one after another, from the empty catalog on. An error says that memory ran out, or
+/// what else `Session::run_step` names, which no run brings about.
 ///
 /// A part costs a look at each session.
 pub fn take_parts<L>(
@@ -37,7 +38,6 @@ pub fn take_parts<L>(
     requires legal { is_legal script.value journal.now ≡ true }
     requires sessions { sessions.old ≡ map begun script.value.sections }
     requires counters { length reads.old ≡ 65 }
-    requires room { All (λ n. n ≤ 2 ^ 62) reads.old }
     ensures far { OnOk result (AreAsFar script.value journal.now script.value.sections sessions.new) }
     ensures counted { OnOk result (CountedSoFar script.value journal.now sessions.new reads.old reads.new) }
 {
@@ -48,7 +48,7 @@ pub fn take_parts<L>(
     Ok(())
 }
 
-/// Takes the next part of the session with this number. An error says that memory ran out.
+/// Takes the next part of the session with this number. An error is that of `Session::run_step`.
 fn take_part<L>(
     alloc: Global,
     core: &mut Core<L>,
@@ -58,7 +58,6 @@ fn take_part<L>(
 ) -> Result<(), AllocError>
     requires next { HasNext number sessions.old core.old }
     requires counter { number < length reads.old }
-    requires room { slice_index reads.old number ≤ 2 ^ 63 }
     ensures { OnOk result (IsTaken number sessions.old sessions.new core.old core.new reads.old reads.new) }
 {
     let place = place_of(sessions, number);

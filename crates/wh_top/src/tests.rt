@@ -87,6 +87,18 @@ const SESSIONS: &[(&str, &str, [u64; 4])] = &[
         "3.1 DONE SCN 1 READ 0\n64.1 REFUSED MV-02 AT 1 T READ 0\njournal 64.1.1 3.1.1\n",
         [0, 0, 0, 0],
     ),
+    // Each session reads for itself: an UPDATE and a DELETE scan their table, also in a block that is refused later.
+    (
+        "@setup\nCREATE TABLE T (G VARCHAR2(4), A NUMBER);\nINSERT INTO T VALUES ('P',1),('P',2),('Q',3);\n@session 1\nUPDATE T SET A = A + 10 WHERE G = 'P';\nSELECT G, SUM(A), COUNT(*) FROM T GROUP BY G;\n@session 2\nBEGIN;\nINSERT INTO T VALUES ('R',5);\nDELETE FROM T WHERE G = 'Q';\nCOMMIT;\nBEGIN;\nDELETE FROM T;\nINSERT INTO X VALUES (1);\nCOMMIT;\n@session 3\nDELETE FROM T WHERE G = 'P';\n@order 1 2 2 3 1\n@end\n",
+        "0.1 DONE SCN 1 READ 0\n0.2 COMMITTED SCN 2 ROWS 3 READ 0 VIEWS 0\n1.1 COMMITTED SCN 3 ROWS 2 READ 3 VIEWS 0\n1.2 ANSWER SCN 5 PLAN BASE READ 1 ROWS 1\nR|5|1\n2.1 COMMITTED SCN 4 ROWS 2 READ 4 VIEWS 0\n2.2 REFUSED MV-02 AT 2 X READ 3\n3.1 COMMITTED SCN 5 ROWS 2 READ 3 VIEWS 0\njournal 0.1.1 0.2.1 1.1.1 2.1.1 2.2.1 3.1.1 1.2.1\n",
+        [0, 4, 7, 3],
+    ),
+    // A block sees what its own statements made, and has to make no change. A SELECT can't stand in it.
+    (
+        "@setup\nCREATE TABLE T (A NUMBER);\nBEGIN; COMMIT;\nBEGIN; INSERT INTO T VALUES (1),(2); UPDATE T SET A = A + 1; DELETE FROM T WHERE A = 3; COMMIT;\nBEGIN; DELETE FROM T; SELECT A, COUNT(*) FROM T GROUP BY A; COMMIT;\nSELECT A, COUNT(*) FROM T GROUP BY A;\n@end\n",
+        "0.1 DONE SCN 1 READ 0\n0.2 COMMITTED SCN 2 ROWS 0 READ 0 VIEWS 0\n0.3 COMMITTED SCN 3 ROWS 5 READ 4 VIEWS 0\n0.4 REFUSED MV-19 AT 2 READ 1\n0.5 ANSWER SCN 3 PLAN BASE READ 1 ROWS 1\n2|1\njournal 0.1.1 0.2.1 0.3.1 0.4.1 0.5.1\n",
+        [6, 0, 0, 0],
+    ),
     // A refresh computes what was there at its begin, and a query after it what is there now.
     (
         "@setup\nCREATE TABLE T (G VARCHAR2(4), A NUMBER);\nINSERT INTO T VALUES ('P',1);\nCREATE MATERIALIZED VIEW V ENABLE QUERY REWRITE AS SELECT G, SUM(A), COUNT(*) FROM T GROUP BY G;\nINSERT INTO T VALUES ('P',2);\n@session 1\nEXECUTE DBMS_MVIEW.REFRESH('V', 'C');\nSELECT G, SUM(A), COUNT(*) FROM T GROUP BY G;\n@session 2\nINSERT INTO T VALUES ('P',4);\n@order 1 2 1 1\n@end\n",

@@ -19,7 +19,8 @@ use wh_io::{Sink, Source, write_all};
 pub enum Status {
     /// The transcript is written whole.
     Done,
-    /// Memory ran out.
+    /// Memory ran out; or more than 2^63 rows were read, or one of the other bounds was met that no run reaches and that
+    /// `Session::run_step` names.
     NoMemory,
     /// The words aren't the one word `order`.
     BadWords,

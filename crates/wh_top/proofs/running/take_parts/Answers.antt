@@ -1,7 +1,6 @@
-use Rattle.std.proofs.Common.{◌<◌, ◌^◌, sym, subst, arith, length, take, drop, suc, [], get_or}
+use Rattle.std.proofs.Common.{◌<◌, sym, subst, arith, length, take, drop, suc, [], get_or}
 use Rattle.wh_base.specs.declared.statements.Entry.{Entry}
-use Rattle.wh_top.proofs.Counts.{low_at, low_start}
-use Rattle.wh_top.proofs.SoFar.{SoFar, entry_within, front_at, front_short, legal_at, next_so_far, start_so_far, step_so_far}
+use Rattle.wh_top.proofs.SoFar.{SoFar, entry_within, front_at, legal_at, next_so_far, start_so_far, step_so_far}
 use Rattle.wh_top.proofs.running.take_parts.Goals as goal
 
 abbrev none : Entry
@@ -10,7 +9,7 @@ none = record { session = 0; command = 0; part = 0 }
 pub loop-entry-init : goal.loop-entry-init
 loop-entry-init g c =
     let script = c.args.script.value in
-    subst (λ t. SoFar script [] t c.args.sessions.now c.args.reads.now c.args.reads.now) (sym c.in_ok-core.ensures) (start_so_far script c.args.sessions.now c.args.reads.now c.requires.sessions (low_start c.args.reads.now c.requires.room) c.requires.counters)
+    subst (λ t. SoFar script [] t c.args.sessions.now c.args.reads.now c.args.reads.now) (sym c.in_ok-core.ensures) (start_so_far script c.args.sessions.now c.args.reads.now c.requires.sessions c.requires.counters)
 
 pub take_part-requires-clause-next : goal.take_part-requires-clause-next
 take_part-requires-clause-next g c =
@@ -32,19 +31,6 @@ take_part-requires-clause-counter g c =
     let legal = legal_at script journal entries i none c.as_slice-entry-items.ensures.items within c.requires.legal in
     let low = entry_within script (take i journal) (drop (suc i) journal) (get_or entries i none) c.requires.runnable legal in
     omega (arith, low, c.loop-entry.invariant.many)
-
-pub take_part-requires-clause-room : goal.take_part-requires-clause-room
-take_part-requires-clause-room g c =
-    let script = c.args.script.value in
-    let journal = c.args.journal.now in
-    let entries = c.as_slice-entry-items.result.now in
-    let i = c.loop-entry.entry-index in
-    let e = get_or entries i none in
-    let within : i < length entries = omega arith in
-    let legal = legal_at script journal entries i none c.as_slice-entry-items.ensures.items within c.requires.legal in
-    let low = entry_within script (take i journal) (drop (suc i) journal) e c.requires.runnable legal in
-    let short : length journal < 2 ^ 32 = subst (λ xs. length xs < 2 ^ 32) c.as_slice-entry-items.ensures.items c.as_slice-entry-items.ensures.few in
-    low_at c.loop-entry.reads (length (take i journal)) e.session (omega (arith, low, c.loop-entry.invariant.many)) (omega (arith, short, front_short journal i)) c.loop-entry.invariant.low
 
 pub loop-entry-preserved : goal.loop-entry-preserved
 loop-entry-preserved g c =

@@ -4,4 +4,4 @@ use Rattle.def_journal.specs.Journal.{commands_of}
 use Rattle.wh_core.proofs.catalog.Core.built.Goals as goal
 
 pub returns : goal.returns
-returns g c = subst (λ trace. commands_are_built (commands_of trace) ≡ true) c.self.view_is c.self.invariant.built
+returns g c = subst (λ trace. commands_are_built (commands_of trace) ≡ true) c.self.view_is c.self.invariant.core.built

@@ -15,36 +15,36 @@ use Rattle.wh_core.proofs.catalog.Core.create_view.Goals as goal
 pub built_view-requires-clause-known : goal.built_view-requires-clause-known
 built_view-requires-clause-known g c =
     let star = sym c.in-Ok.is ∙ c.in_ok-query.ensures in
-    let resolved = asked_resolves _ _ _ _ _ _ _ c.self.invariant c.args.view.now c.in-Ok.query star in
-    let can = c.known.ensures.asked c.self.inside.notes.items c.args.view.now.asked.query c.in-Ok.query c.self.invariant.image resolved in
+    let resolved = asked_resolves _ _ _ _ _ _ _ c.self.invariant.core c.args.view.now c.in-Ok.query star in
+    let can = c.known.ensures.asked c.self.inside.notes.items c.args.view.now.asked.query c.in-Ok.query c.self.invariant.core.image resolved in
     can.known
 
 pub returns-in_err-built-in-Ok-clause-most : goal.returns-in_err-built-in-Ok-clause-most
 returns-in_err-built-in-Ok-clause-most g c =
     let star = sym c.in-Ok.is ∙ c.in_ok-query.ensures in
-    let resolved = asked_resolves _ _ _ _ _ _ _ c.self.invariant c.args.view.now c.in-Ok.query star in
-    let can = c.known.ensures.asked c.self.inside.notes.items c.args.view.now.asked.query c.in-Ok.query c.self.invariant.image resolved in
+    let resolved = asked_resolves _ _ _ _ _ _ _ c.self.invariant.core c.args.view.now c.in-Ok.query star in
+    let can = c.known.ensures.asked c.self.inside.notes.items c.args.view.now.asked.query c.in-Ok.query c.self.invariant.core.image resolved in
     omega (arith, can.few, c.built_view.ensures.most (base_now (catalog_of c.self.inside.notes.items)) can.shown)
 
 pub add-requires-clause-next : goal.add-requires-clause-next
 add-requires-clause-next g c =
     let star = sym c.in-Ok.is ∙ c.in_ok-query.ensures in
-    let resolved = asked_resolves _ _ _ _ _ _ _ c.self.invariant c.args.view.now c.in-Ok.query star in
-    let can = c.known.ensures.asked c.self.inside.notes.items c.args.view.now.asked.query c.in-Ok.query c.self.invariant.image resolved in
+    let resolved = asked_resolves _ _ _ _ _ _ _ c.self.invariant.core c.args.view.now c.in-Ok.query star in
+    let can = c.known.ensures.asked c.self.inside.notes.items c.args.view.now.asked.query c.in-Ok.query c.self.invariant.core.image resolved in
     ap (λ k. k.view.def.view) (c.in_ok-built-in-Ok.ensures.kept (base_now (catalog_of c.self.inside.notes.items)) can.shown)
 
 pub returns-in_err-add-in-Ok-clause-most : goal.returns-in_err-add-in-Ok-clause-most
 returns-in_err-add-in-Ok-clause-most g c =
     let star = sym c.in-Ok.is ∙ c.in_ok-query.ensures in
-    let resolved = asked_resolves _ _ _ _ _ _ _ c.self.invariant c.args.view.now c.in-Ok.query star in
-    let can = c.known.ensures.asked c.self.inside.notes.items c.args.view.now.asked.query c.in-Ok.query c.self.invariant.image resolved in
+    let resolved = asked_resolves _ _ _ _ _ _ _ c.self.invariant.core c.args.view.now c.in-Ok.query star in
+    let can = c.known.ensures.asked c.self.inside.notes.items c.args.view.now.asked.query c.in-Ok.query c.self.invariant.core.image resolved in
     omega (arith, can.few, c.built_view.ensures.most (base_now (catalog_of c.self.inside.notes.items)) can.shown)
 
 pub returns-in_ok-add-in-Ok-clause-most : goal.returns-in_ok-add-in-Ok-clause-most
 returns-in_ok-add-in-Ok-clause-most g c =
     let star = sym c.in-Ok.is ∙ c.in_ok-query.ensures in
-    let resolved = asked_resolves _ _ _ _ _ _ _ c.self.invariant c.args.view.now c.in-Ok.query star in
-    let can = c.known.ensures.asked c.self.inside.notes.items c.args.view.now.asked.query c.in-Ok.query c.self.invariant.image resolved in
+    let resolved = asked_resolves _ _ _ _ _ _ _ c.self.invariant.core c.args.view.now c.in-Ok.query star in
+    let can = c.known.ensures.asked c.self.inside.notes.items c.args.view.now.asked.query c.in-Ok.query c.self.invariant.core.image resolved in
     omega (arith, can.few, c.built_view.ensures.most (base_now (catalog_of c.self.inside.notes.items)) can.shown)
 
 pub invariant_of-self-in-Ok : goal.invariant_of-self-in-Ok
@@ -52,12 +52,12 @@ invariant_of-self-in-Ok g c =
     let same = ap (event_of c.args.id) c.requires.command in
     let accepted = accepts c.args.id _ (commands.Other (about.View (CreateView c.args.view.now))) c.requires.command c.requires.built (subst IsRead c.requires.command c.requires.read) in
     let star = sym c.in-Ok.is ∙ c.in_ok-query.ensures in
-    let resolved = asked_resolves _ _ _ _ _ _ _ c.self.invariant c.args.view.now c.in-Ok.query star in
-    let can = c.known.ensures.asked c.self.inside.notes.items c.args.view.now.asked.query c.in-Ok.query c.self.invariant.image resolved in
-    let after = made_view _ c.args.id c.args.view.now _ _ _ _ _ _ c.self.invariant accepted c.in-Ok.query star _ _ refl refl in
+    let resolved = asked_resolves _ _ _ _ _ _ _ c.self.invariant.core c.args.view.now c.in-Ok.query star in
+    let can = c.known.ensures.asked c.self.inside.notes.items c.args.view.now.asked.query c.in-Ok.query c.self.invariant.core.image resolved in
+    let after = made_view _ c.args.id c.args.view.now _ _ _ _ _ _ c.self.invariant.core accepted c.in-Ok.query star _ _ refl refl in
     let views = c.in_ok-add-in-Ok.ensures.ok ∙ ap (λ k. added k c.self.inside.image.views) (c.in_ok-built-in-Ok.ensures.kept (base_now (catalog_of c.self.inside.notes.items)) can.shown) in
     rw views
-    (closes _ _ _ _ _ _ _ _ _ _ _ _ after c.reserve.ensures.items (c.note_of.ensures ∙ same) c.push_reserved.ensures.items
+    (closes _ _ _ _ _ _ _ _ _ _ _ _ _ after c.self.invariant.right c.self.invariant.settled c.reserve.ensures.items (c.note_of.ensures ∙ same) c.push_reserved.ensures.items
     (omega (arith, c.in_ok-reserve.ensures.ok, c.push_reserved.ensures.len, c.push_reserved.ensures.capacity)))
 
 pub returns-in_ok-add-in-Ok-clause-reply : goal.returns-in_ok-add-in-Ok-clause-reply
@@ -65,9 +65,9 @@ returns-in_ok-add-in-Ok-clause-reply g c =
     let same = ap (event_of c.args.id) c.requires.command in
     let accepted = accepts c.args.id _ (commands.Other (about.View (CreateView c.args.view.now))) c.requires.command c.requires.built (subst IsRead c.requires.command c.requires.read) in
     let star = sym c.in-Ok.is ∙ c.in_ok-query.ensures in
-    let resolved = asked_resolves _ _ _ _ _ _ _ c.self.invariant c.args.view.now c.in-Ok.query star in
-    let can = c.known.ensures.asked c.self.inside.notes.items c.args.view.now.asked.query c.in-Ok.query c.self.invariant.image resolved in
-    let after = made_view _ c.args.id c.args.view.now _ _ _ _ _ _ c.self.invariant accepted c.in-Ok.query star _ _ refl refl in
+    let resolved = asked_resolves _ _ _ _ _ _ _ c.self.invariant.core c.args.view.now c.in-Ok.query star in
+    let can = c.known.ensures.asked c.self.inside.notes.items c.args.view.now.asked.query c.in-Ok.query c.self.invariant.core.image resolved in
+    let after = made_view _ c.args.id c.args.view.now _ _ _ _ _ _ c.self.invariant.core accepted c.in-Ok.query star _ _ refl refl in
     let read = c.in_ok-built-in-Ok.ensures.read (base_now (catalog_of c.self.inside.notes.items)) can.shown in
     answers _ _ _ _ _ _ _ _ _ _ _ after c.self.view_is same (c.done.ensures ∙ (λ i. reply.Catalog (record { scn = c.scn.ensures i; read = read i })))
 
@@ -75,13 +75,13 @@ pub invariant_of-self-in-Err : goal.invariant_of-self-in-Err
 invariant_of-self-in-Err g c =
     let same = ap (event_of c.args.id) c.requires.command in
     let accepted = accepts c.args.id _ (commands.Other (about.View (CreateView c.args.view.now))) c.requires.command c.requires.built (subst IsRead c.requires.command c.requires.read) in
-    let after = not_made _ c.args.id c.args.view.now _ _ _ _ _ _ c.self.invariant accepted c.in-Err.code (sym c.in-Err.is ∙ c.in_ok-query.ensures) in
-    closes _ _ _ _ _ _ _ _ _ _ _ _ after c.reserve.ensures.items (c.note_of-in-Err.ensures ∙ same) c.push_reserved-in-Err.ensures.items
+    let after = not_made _ c.args.id c.args.view.now _ _ _ _ _ _ c.self.invariant.core accepted c.in-Err.code (sym c.in-Err.is ∙ c.in_ok-query.ensures) in
+    closes _ _ _ _ _ _ _ _ _ _ _ _ _ after c.self.invariant.right c.self.invariant.settled c.reserve.ensures.items (c.note_of-in-Err.ensures ∙ same) c.push_reserved-in-Err.ensures.items
     (omega (arith, c.in_ok-reserve.ensures.ok, c.push_reserved-in-Err.ensures.len, c.push_reserved-in-Err.ensures.capacity))
 
 pub returns-in-Err-clause-reply : goal.returns-in-Err-clause-reply
 returns-in-Err-clause-reply g c =
     let same = ap (event_of c.args.id) c.requires.command in
     let accepted = accepts c.args.id _ (commands.Other (about.View (CreateView c.args.view.now))) c.requires.command c.requires.built (subst IsRead c.requires.command c.requires.read) in
-    let after = not_made _ c.args.id c.args.view.now _ _ _ _ _ _ c.self.invariant accepted c.in-Err.code (sym c.in-Err.is ∙ c.in_ok-query.ensures) in
+    let after = not_made _ c.args.id c.args.view.now _ _ _ _ _ _ c.self.invariant.core accepted c.in-Err.code (sym c.in-Err.is ∙ c.in_ok-query.ensures) in
     answers _ _ _ _ _ _ _ _ _ _ _ after c.self.view_is same c.refusal.ensures

@@ -11,6 +11,10 @@ invariant_of-self-2 g c =
     let same = ap (event_of c.args.id) c.requires.command in
     let accepted = accepts c.args.id _ (commands.Other c.args.statement.now) c.requires.command c.requires.built (subst IsRead c.requires.command c.requires.read) in
     let items = c.push_reserved.ensures.items ∙ (λ i. c.reserve.ensures.items i ++ (c.note_of.ensures ∙ same) i ∷ []) in
-    rw (items, c.begins_of-begins.ensures)
-    (begun_core _ c.args.id c.args.statement.now _ _ _ _ _ _ c.self.invariant accepted c.requires.reads _
-    (omega (arith, c.in_ok-reserve.ensures.ok, c.push_reserved.ensures.len, c.push_reserved.ensures.capacity, c.begins_of-begins.ensures)))
+    record {
+      core = rw (items, c.begins_of-begins.ensures)
+          (begun_core _ c.args.id c.args.statement.now _ _ _ _ _ _ c.self.invariant.core accepted c.requires.reads _
+          (omega (arith, c.in_ok-reserve.ensures.ok, c.push_reserved.ensures.len, c.push_reserved.ensures.capacity, c.begins_of-begins.ensures)));
+      right = c.self.invariant.right;
+      settled = c.self.invariant.settled;
+    }
