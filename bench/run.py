@@ -13,7 +13,7 @@ import threading
 import time
 from collections.abc import Callable, Iterator
 from concurrent.futures import Executor, ProcessPoolExecutor
-from dataclasses import dataclass
+from dataclasses import dataclass, replace
 from pathlib import Path
 
 ROOT = Path(__file__).resolve().parent.parent
@@ -31,6 +31,7 @@ class Case:
     statements: Callable[[int], Iterator[str]]
     refused: bool = False  # all but the first statement are refused, by both programs
     theirs: Callable[[int], Iterator[str]] | None = None  # SQLite's statements, where they aren't the same
+    before: Callable[[int], Iterator[str]] | None = None  # its first statements, whose time is taken off
 
 
 def sales(first: int, count: int) -> str:
@@ -102,6 +103,57 @@ def summarized(rows: int) -> Iterator[str]:
             yield "SELECT G, S, N FROM V ORDER BY G"
 
 
+UPDATES = 200
+DELETES = 100
+
+
+def keyed(rows: int) -> Iterator[str]:
+    """Customers with a primary key, and twice as many sales that refer to them: all rows in thousands, then updates and
+    deletes of one customer each, by key. The customers that are deleted are the last ones, which have no sale."""
+    customers, sales_of = rows // 3, rows - rows // 3
+    yield "CREATE TABLE CUSTOMER (ID NUMBER PRIMARY KEY, CITY VARCHAR2(10) NOT NULL, CREDIT NUMBER NOT NULL)"
+    yield "CREATE TABLE SALE (CUSTOMER NUMBER NOT NULL REFERENCES CUSTOMER (ID), A NUMBER)"
+    for first in range(1, customers + 1, 1000):
+        ids = range(first, min(first + 1000, customers + 1))
+        yield "INSERT INTO CUSTOMER VALUES " + ", ".join(f"({it}, 'C{it * 31 % 1000:03}', {it * 7919 % 10_007})" for it in ids)
+    for first in range(0, sales_of, 1000):
+        numbers = range(first, min(first + 1000, sales_of))
+        yield "INSERT INTO SALE VALUES " + ", ".join(f"({it * 7919 % (customers - DELETES) + 1}, {it * 31 % 997})" for it in numbers)
+    for turn in range(UPDATES):
+        yield f"UPDATE CUSTOMER SET CREDIT = CREDIT + 1 WHERE ID = {turn * 7919 % customers + 1}"
+    for turn in range(DELETES):
+        yield f"DELETE FROM CUSTOMER WHERE ID = {customers - turn}"
+    yield "SELECT CITY, COUNT(*), SUM(CREDIT) FROM CUSTOMER GROUP BY CITY"
+    yield "SELECT COUNT(*), SUM(A) FROM SALE"
+
+
+def keyed_theirs(rows: int) -> Iterator[str]:
+    """The same, where SQLite minds foreign keys and has an index on the one of SALE, without which each DELETE would read
+    all sales."""
+    yield "PRAGMA foreign_keys = ON"
+    for statement in keyed(rows):
+        yield statement
+        if statement.startswith("CREATE TABLE SALE "):
+            yield "CREATE INDEX SALE_CUSTOMER ON SALE (CUSTOMER)"
+
+
+COMMITS = 5000
+
+
+def beside(rows: int) -> Iterator[str]:
+    """A table that is filled, and a second one without rows."""
+    yield from filled(rows)
+    yield "CREATE TABLE SMALL (A NUMBER)"
+
+
+def snapshots(rows: int) -> Iterator[str]:
+    """Then the second table alone is used: again and again a commit of one row, and a count of its rows."""
+    yield from beside(rows)
+    for turn in range(COMMITS):
+        yield f"INSERT INTO SMALL VALUES ({turn})"
+        yield "SELECT COUNT(*) FROM SMALL"
+
+
 # Most cases stand here twice, with ten times more rows, so that it is seen how the time grows.
 CASES = [
     Case("totals", 20_000, totals),
@@ -113,6 +165,10 @@ CASES = [
     Case("read", 8 * READ_ROWS, refused_inserts, refused=True),
     Case("refresh", 10_000, refreshed, theirs=summarized),
     Case("refresh", 100_000, refreshed, theirs=summarized),
+    Case("keys", 30_000, keyed, theirs=keyed_theirs),
+    Case("keys", 300_000, keyed, theirs=keyed_theirs),
+    Case("snapshots", 20_000, snapshots, before=beside),
+    Case("snapshots", 200_000, snapshots, before=beside),
 ]
 
 LOAD_LINES = 262_144
@@ -172,13 +228,14 @@ def answers_agree(transcript: Path, rows: Path) -> bool:
 class Run:
     status: int
     seconds: float
+    work: float  # seconds of the processor
     peak: int  # bytes
     errors: str
 
 
 def run(command: list[str], script: Path, output: Path) -> Run:
-    """One run of a program that reads the script: its time from start to end, and its peak memory. What it writes to
-    standard error goes to a file beside its output."""
+    """One run of a program that reads the script: its time from start to end, its time on the processor, and its peak
+    memory. What it writes to standard error goes to a file beside its output."""
     with open(script, "rb") as source, open(output, "wb") as sink, open(f"{output}.errors", "w+b") as errors:
         started = time.perf_counter()
         child = subprocess.Popen(command, stdin=source, stdout=sink, stderr=errors)
@@ -192,7 +249,7 @@ def run(command: list[str], script: Path, output: Path) -> Run:
         text = errors.read(200).decode(errors="replace").strip()
         if seconds >= LIMIT:
             text = f"stopped after {LIMIT} seconds"
-    return Run(child.returncode, seconds, usage.ru_maxrss * 1024, text)
+    return Run(child.returncode, seconds, usage.ru_utime + usage.ru_stime, usage.ru_maxrss * 1024, text)
 
 
 def runs(command: list[str], script: Path, output: Path, wanted: int = 0) -> list[Run]:
@@ -216,33 +273,79 @@ def median_of(found: list[Run]) -> float:
     return statistics.median(it.seconds for it in found)
 
 
-def measure(case: Case, program: Path, sqlite: str, folder: Path, worker: Executor) -> tuple[str, ...]:
-    """The cells of one line of the table, or fewer where the case can't be compared, the last of them the reason.
+def least_work(found: list[Run]) -> float:
+    return min(it.work for it in found)
+
+
+@dataclass(frozen=True)
+class Times:
+    """What was measured of a case: the seconds of each program, mviewdb's greatest peak of memory and its script's size in
+    bytes."""
+
+    mine: float
+    other: float
+    peak: int
+    size: int
+
+
+def timed(
+    case: Case, seconds_of: Callable[[list[Run]], float], program: Path, sqlite: str, folder: Path, worker: Executor
+) -> Times | str:
+    """The times of all statements of a case, each as the function makes it of several runs, or the reason why it can't be
+    compared.
 
     What takes memory is done by the worker, another process: a child's peak begins with what this process holds.
     """
     ours, theirs, transcript, rows = (folder / name for name in ("ours.sql", "theirs.sql", "ours.out", "theirs.out"))
     size = worker.submit(write_scripts, case, ours, theirs).result()
-    head = (case.name, f"{case.rows:,}")
     mine = runs([str(program), "order"], ours, transcript)
     if mine[-1].status != 0:
-        return (*head, f"mviewdb ended with status {mine[-1].status}: {mine[-1].errors}")
+        return f"mviewdb ended with status {mine[-1].status}: {mine[-1].errors}"
     wanted = 1 if case.refused else 0
     other = runs([sqlite, "-batch", "-list", "-separator", "|", ":memory:"], theirs, rows, wanted)
     if other[-1].status != wanted:
-        return (*head, f"sqlite3 ended with status {other[-1].status}: {other[-1].errors}")
+        return f"sqlite3 ended with status {other[-1].status}: {other[-1].errors}"
     if not worker.submit(agree, case, transcript, rows).result():
-        return (*head, "the answers differ")
-    mine_seconds, other_seconds = median_of(mine), median_of(other)
-    peak = max(it.peak for it in mine)
+        return "the answers differ"
+    return Times(seconds_of(mine), seconds_of(other), max(it.peak for it in mine), size)
+
+
+def measure(case: Case, program: Path, sqlite: str, folder: Path, worker: Executor) -> Times | str:
+    """The median times of a case, or the reason why it can't be compared. Where the time of some first statements is taken
+    off, it is the least time on the processor instead: the difference of these changes least from run to run."""
+    if case.before is None:
+        return timed(case, median_of, program, sqlite, folder, worker)
+    whole = timed(case, least_work, program, sqlite, folder, worker)
+    if isinstance(whole, str):
+        return whole
+    first = timed(replace(case, statements=case.before, theirs=None), least_work, program, sqlite, folder, worker)
+    if isinstance(first, str):
+        return first
+    return replace(whole, mine=whole.mine - first.mine, other=whole.other - first.other)
+
+
+def cells(case: Case, found: Times | str) -> tuple[str, ...]:
+    """The cells of one line of the table, or fewer where the case couldn't be compared, the last of them the reason."""
+    head = (case.name, f"{case.rows:,}")
+    if isinstance(found, str):
+        return (*head, found)
     return (
         *head,
-        f"{mine_seconds:.3f}",
-        f"{other_seconds:.3f}",
-        f"{mine_seconds / other_seconds:.1f}",
-        f"{peak / MEGABYTE:.1f}",
-        f"{size / MEGABYTE:.2f}",
-        f"{peak / size:.1f}",
+        f"{found.mine:.3f}",
+        f"{found.other:.3f}",
+        f"{found.mine / found.other:.1f}",
+        f"{found.peak / MEGABYTE:.1f}",
+        f"{found.size / MEGABYTE:.2f}",
+        f"{found.peak / found.size:.1f}",
+    )
+
+
+def show_growth(few: Case, many: Case, first: Times, second: Times) -> None:
+    """How much longer the same statements take behind more rows."""
+    print(
+        f"{many.name}: behind {many.rows:,} rows mviewdb takes {second.mine / first.mine:.2f} times as long as behind "
+        f"{few.rows:,}, sqlite3 {second.other / first.other:.2f} times",
+        flush=True,
     )
 
 
@@ -299,8 +402,16 @@ def main() -> int:
     cases = [case for case in CASES if given.case is None or case.name in given.case]
     show(HEAD)
     with tempfile.TemporaryDirectory() as folder, ProcessPoolExecutor(1) as worker:
+        last: tuple[Case, Times] | None = None  # the case before with its times, where some time was taken off
         for case in cases:
-            show(measure(case, program, sqlite, Path(folder), worker))
+            found = measure(case, program, sqlite, Path(folder), worker)
+            show(cells(case, found))
+            if case.before is None or isinstance(found, str):
+                last = None
+                continue
+            if last is not None and last[0].name == case.name:
+                show_growth(last[0], case, last[1], found)
+            last = (case, found)
         if given.case is None or "load" in given.case:
             worker.submit(measure_load, program, Path(folder)).result()
         floor = run(["true"], Path(os.devnull), Path(os.devnull)).peak
