@@ -16,6 +16,3 @@ pub use changes::{PlacedRow, RowChange};
 pub use filter::Filter;
 pub use refusals::{delete_refusal, update_refusal};
 pub use set_list::{PlacedSet, SetList, SetTo};
-
-#[cfg(test)]
-mod tests;
