@@ -5,6 +5,7 @@ mod chunk;
 mod chunk_list;
 mod meaning;
 mod segment;
+mod shared_list;
 mod version;
 
 pub use meaning::laws;

@@ -1,7 +1,7 @@
 ghost use Rattle.std.specs.Prelude.{◌≡◌, ◌+◌, ◌-◌, ◌<◌, ◌^◌, [], ◌∷◌, ◌++◌, IfOk, IfSome, IsSome, IsSomeAnd, IsTrue, OnErr, OnOk, Some, filter, length, slice_get};
 ghost use Rattle.wh_segment.specs.Versions.{born_at, ended_at, is_live, is_past, purged, removed_at, replaced_at, visible_at};
 
-use crate::chunk_list::ChunkList;
+use crate::shared_list::SharedList;
 use crate::version::Version;
 use std::alloc::{AllocError, Global};
 use std::marker::{Model, PhantomData};
@@ -17,7 +17,7 @@ use wh_base::values::Value;
 #[derive(Drop)]
 pub struct Segment<L> {
     alloc: Global,
-    versions: ChunkList<Version>,
+    versions: SharedList<Version>,
     mark: PhantomData<L>,
 }
 
@@ -35,15 +35,15 @@ impl<L> Model for Segment<L> {
 }
 
 impl<L> Segment<L> {
-    /// No versions. Takes no memory.
-    pub fn new(alloc: Global) -> Segment<L>
-        ensures { result ≡ [] }
+    /// No versions. An error says that memory ran out.
+    pub fn new(alloc: Global) -> Result<Segment<L>, AllocError>
+        ensures { IfOk result (λ s. s ≡ []) }
     {
-        Segment {
+        Ok(Segment {
             alloc,
-            versions: ChunkList::new(alloc),
+            versions: SharedList::new(alloc)?,
             mark: PhantomData,
-        }
+        })
     }
 
     /// How many places there are.
@@ -189,20 +189,20 @@ impl<L> Segment<L> {
         ensures ok { OnOk result (self.new ≡ purged to self.old) }
         ensures err { OnErr result (self.new ≡ self.old) }
     {
-        let mut kept = self.versions.copy(self.alloc)?;
+        let mut kept = self.versions.share()?;
         let count = remove_past(&mut kept, self.alloc, to)?;
         self.versions = kept;
         Ok(count)
     }
 
-    /// The same segment, which shares its chunks: to copy it costs the list of chunks alone. An error says that memory ran
-    /// out.
+    /// The same segment, which shares all that it has until one of the two changes: to copy it costs the same for every
+    /// number of rows. An error says that memory ran out.
     pub fn copy(&self) -> Result<Segment<L>, AllocError>
         ensures { IfOk result (λ s. s ≡ self.now) }
     {
         Ok(Segment {
             alloc: self.alloc,
-            versions: self.versions.copy(self.alloc)?,
+            versions: self.versions.share()?,
             mark: PhantomData,
         })
     }
@@ -210,7 +210,11 @@ impl<L> Segment<L> {
 
 /// Removes the versions that died at an SCN or before it, and gives how many. An error says that memory ran out.
 #[tactic(auto, using(crate::proofs::Removing::removing))]
-fn remove_past(versions: &mut ChunkList<Version>, alloc: Global, to: u64) -> Result<u64, AllocError>
+fn remove_past(
+    versions: &mut SharedList<Version>,
+    alloc: Global,
+    to: u64,
+) -> Result<u64, AllocError>
     ensures count { IfOk result (λ count. count ≡ length (filter (is_past to) versions.old)) }
     ensures ok { OnOk result (versions.new ≡ purged to versions.old) }
 {
@@ -225,7 +229,7 @@ fn remove_past(versions: &mut ChunkList<Version>, alloc: Global, to: u64) -> Res
 }
 
 /// What the version at a place becomes, where it died at an SCN or before it and isn't removed.
-fn removed_at(versions: &ChunkList<Version>, place: usize, to: u64) -> Option<Version>
+fn removed_at(versions: &SharedList<Version>, place: usize, to: u64) -> Option<Version>
     requires { place < length versions.now }
     ensures { result ≡ removed_at to versions.now place }
 {

@@ -26,7 +26,7 @@ fn seen(segment: &Segment<()>, scn: u64) -> [bool; 3] {
 fn versions_come_and_go(rt: HostRuntime) -> Result<(), Fail> {
     let alloc = rt.alloc();
     let mut reads = Reads::new(());
-    let mut segment = Segment::new(alloc);
+    let mut segment = Segment::new(alloc)?;
     assert_eq!(rt; segment.append(7, 1, row(alloc, 10)?, 3)?, 0);
     assert_eq!(rt; segment.append(8, 2, row(alloc, 20)?, 5)?, 1);
     let copy = segment.copy()?;
@@ -64,7 +64,7 @@ fn versions_come_and_go(rt: HostRuntime) -> Result<(), Fail> {
 #[test]
 fn goes_over_many_chunks(rt: HostRuntime) -> Result<(), Fail> {
     let alloc = rt.alloc();
-    let mut segment: Segment<()> = Segment::new(alloc);
+    let mut segment: Segment<()> = Segment::new(alloc)?;
     for rowid in 0..2050u64 {
         segment.append(rowid, 0, Seq::new(alloc), 1)?;
     }
@@ -80,7 +80,7 @@ fn goes_over_many_chunks(rt: HostRuntime) -> Result<(), Fail> {
 fn a_version_has_a_successor(rt: HostRuntime) -> Result<(), Fail> {
     let alloc = rt.alloc();
     let mut reads = Reads::new(());
-    let mut segment = Segment::new(alloc);
+    let mut segment = Segment::new(alloc)?;
     assert_eq!(rt; segment.append(7, 2, row(alloc, 10)?, 3)?, 0);
     let copy = segment.copy()?;
     assert_eq!(rt; segment.replace(0, row(alloc, 20)?, 5)?, 1);

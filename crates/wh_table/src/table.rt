@@ -43,7 +43,7 @@ impl<L> Table<L> {
     {
         Ok(Table {
             def: Shared::new(alloc, def)?,
-            segment: Segment::new(alloc),
+            segment: Segment::new(alloc)?,
             given: 0,
             live: 0,
             changed: 0,
