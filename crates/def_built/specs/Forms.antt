@@ -16,7 +16,7 @@ abbrev pub is_built : Form → Bool
 is_built forms.Session = true
 is_built forms.Order = true
 is_built forms.Block = true
-is_built forms.Load = false
+is_built forms.Load = true
 is_built forms.Select = true
 is_built forms.Insert = true
 is_built forms.Update = true

@@ -46,6 +46,7 @@ pub fn is_built(form: Form) -> bool
         Form::Session
             | Form::Order
             | Form::Block
+            | Form::Load
             | Form::Select
             | Form::Insert
             | Form::Update

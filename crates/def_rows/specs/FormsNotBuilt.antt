@@ -113,7 +113,7 @@ pub order_too_long :
 unfolding built_script digits utf8_valid_len is_utf8 chars lib.Utf8.encode tokens_of front_of next_record strip_bom
 order_too_long = refl
 
--- of a LOAD block `@load` is told
+-- a LOAD block
 pub load :
     built (lines_text (
     codes "@setup"
@@ -123,7 +123,7 @@ pub load :
     ∷ codes "@endload"
     ∷ codes "@end"
     ∷ []))
-    ≡ Err (record { line = 3; kind = NotBuilt })
+    ≡ Ok 58
 unfolding built_script digits utf8_valid_len is_utf8 chars lib.Utf8.encode tokens_of front_of next_record strip_bom
 load = refl
 

@@ -47,7 +47,7 @@ fn scripts(rt: HostRuntime) -> Result<(), Fail> {
             "@setup\n@load T\n@end\n1,2\n@endload\n",
             Err((2, LoadShape)),
         ),
-        ("@setup\n@load T\n\"\n@endload\n'", Err((2, NotBuilt))),
+        ("@setup\n@load T\n\"\n@endload\n'", Err((5, OpenQuote))),
         ("@setup\nBEGIN;\n@end", Err((2, OpenBlock))),
     ];
     for (text, want) in table {
