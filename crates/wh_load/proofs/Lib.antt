@@ -1,0 +1,3 @@
+pub mod Capping
+mod Lines
+mod Reading

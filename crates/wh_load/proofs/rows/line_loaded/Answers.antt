@@ -1,0 +1,18 @@
+use Rattle.std.proofs.Common.{ap, arith, length, sym, ◌<◌, ◌∙◌}
+use Rattle.std.specs.Prelude.{option_map}
+use Rattle.def_effect.specs.Block.{field_value}
+use Rattle.wh_base.specs.declared.tables.ColumnDef.{ColumnDef}
+use Rattle.wh_load.proofs.Lines.{line_on, none_on}
+use Rattle.wh_load.specs.Capped.{capped}
+use Rattle.wh_load.proofs.rows.line_loaded.Goals as goal
+
+pub loop-at-preserved : goal.loop-at-preserved
+loop-at-preserved c =
+    let less : c.loop-at.at < length c.args.columns.now = c.loop-at-test.true in
+    let more : c.loop-at.at < length c.args.fields.now = omega (arith, c.requires, less) in
+    let value = sym c.in-Some.is ∙ c.in_ok-value.ensures ∙ ap (λ (column : ColumnDef). option_map capped (field_value column.kind c.index-fields-at.result)) (sym c.index-columns-at.is) in
+    record {
+      done = line_on c.args.columns.now c.args.fields.now c.loop-at.at c.index-columns-at.result c.index-fields-at.result c.in-Some.value c.loop-at.values.items c.push.new.self.items less more c.index-columns-at.is c.index-fields-at.is
+          value c.in_ok-push.ensures.items c.loop-at.invariant.done;
+      none = none_on c.args.def.now c.args.columns.now c.args.fields.now c.loop-at.at c.index-columns-at.result c.index-fields-at.result c.in-Some.value less more c.index-columns-at.is c.index-fields-at.is value c.loop-at.invariant.none;
+    }
