@@ -1,6 +1,7 @@
 pub mod Places
 pub mod Names
 mod Literals
+mod Loading
 mod Refused
 mod Unknown
 mod Twice

@@ -1,24 +1,24 @@
 -- What a statement asks of tables.
-use Rattle.std.specs.Prelude.{◌≡◌, ◌<◌, Bool, Err, IfSome, List, Ok, Result, false, length, map, slice_get, true, ℕ}
+use Rattle.std.specs.Prelude.{◌≡◌, ◌<◌, Err, IfSome, List, None, Ok, Result, length, map, slice_get, ℕ}
+use Rattle.wh_base.specs.Lists.{first_of}
+use Rattle.wh_base.specs.Tables.{table_at}
 use Rattle.wh_base.specs.declared.replies.Refusal.{Refusal}
-use Rattle.wh_base.specs.declared.statements.ChangeStatement.TheVariants.{Load}
 use Rattle.wh_base.specs.declared.statements.Statement.{Statement}
-use Rattle.wh_base.specs.declared.statements.Statement.TheVariants as about
-use Rattle.def_effect.specs.Block.{statement_asks}
+use Rattle.wh_base.specs.declared.tables.Change.{Change}
+use Rattle.def_effect.specs.Block.{changed_row_refusal, statement_asks}
 use Rattle.wh_dml.specs.declared.asking.Asks.{Asks}
 use Rattle.wh_dml.specs.Changes.{change_of}
 use Rattle.wh_dml.specs.Placed.{ArePlaced}
 use Rattle.wh_dml.specs.declared.changes.RowChange.{RowChange}
 use Rattle.wh_table.specs.Stored.{Stored, base_seen}
 
--- every statement of a block but LOAD
-abbrev pub is_checked : Statement → Bool
-is_checked (about.Change (Load s)) = false
-is_checked s = true
-
--- A statement asks these changes of the table with this number, after so many rows were scanned.
+-- A statement asks changes of the table with this number, after so many rows were scanned, and the changes here stand for them. They are those changes,
+-- unless one of those is refused in the second step: then one of these is, and the first refusal is the same.
 pub record AsksFor (scn : ℕ) (tables : List Stored) (s : Statement) (table : ℕ) (changes : List RowChange) (scanned : ℕ) : Type 0 where
-  pub is : statement_asks (base_seen scn tables) s ≡ Ok (record { table = table; changes = map change_of changes; scanned = scanned })
+  pub asked : List Change
+  pub is : statement_asks (base_seen scn tables) s ≡ Ok (record { table = table; changes = asked; scanned = scanned })
+  pub refused : first_of (changed_row_refusal (table_at (base_seen scn tables) table)) asked ≡ first_of (changed_row_refusal (table_at (base_seen scn tables) table)) (map change_of changes)
+  pub same : first_of (changed_row_refusal (table_at (base_seen scn tables) table)) asked ≡ None → asked ≡ map change_of changes
   pub there : table < length tables
   pub placed : IfSome (slice_get tables table) (λ t. ArePlaced scn t changes)
 

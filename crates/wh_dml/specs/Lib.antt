@@ -5,3 +5,4 @@ pub mod Changing
 pub mod Picking
 pub mod Placed
 pub mod Setting
+pub mod Sized

@@ -1,11 +1,12 @@
 //! The first step of a statement: what it asks of tables at their SCN.
-ghost use Rattle.std.specs.Prelude.{◌≡◌, ◌+◌, ◌≤◌, ◌<◌, ◌^◌, IfOk, IfSome, IsTrue, length, map};
+ghost use Rattle.std.specs.Prelude.{◌≡◌, ◌+◌, ◌≤◌, ◌<◌, ◌^◌, IfOk, length, map};
 ghost use Rattle.def_effect.specs.Block.{the_table};
 ghost use Rattle.wh_base.specs.Tables.{most_live};
-ghost use Rattle.wh_base.specs.declared.statements.ChangeStatement.TheVariants.{Delete, Insert, Update};
+ghost use Rattle.wh_base.specs.declared.statements.ChangeStatement.TheVariants.{Delete, Insert, Load, Update};
 ghost use Rattle.wh_base.specs.declared.statements.Statement.TheVariants as about;
-ghost use Rattle.wh_dml.specs.Asked.{IsAsked, is_checked, scanned_by};
+ghost use Rattle.wh_dml.specs.Asked.{IsAsked, scanned_by};
 ghost use Rattle.wh_dml.specs.Picking.{deleted_of, inserts_from, updates_from};
+ghost use Rattle.wh_dml.specs.Sized.{AreSized};
 ghost use Rattle.wh_table.specs.Stored.{base_seen};
 
 use crate::asks::{Asked, insert_asked, table_number};
@@ -18,9 +19,12 @@ use std::alloc::{AllocError, Global};
 use wh_base::reads::Reads;
 use wh_base::replies::Refusal;
 use wh_base::seq::Seq;
-use wh_base::statements::{ChangeStatement, DeleteRows, InsertRows, Statement, UpdateRows};
+use wh_base::statements::{
+    ChangeStatement, DeleteRows, InsertRows, LoadRows, Statement, UpdateRows,
+};
 use wh_base::txt::Txt;
 use wh_base::values::Value;
+use wh_load::rows_loaded;
 use wh_table::Tables;
 
 /// What a statement asks: the number of its table, the changes of rows in the order in which they are made, and how many
@@ -135,6 +139,33 @@ fn insert_asks<L>(
     }))
 }
 
+/// What a LOAD asks.
+fn load_asks<L>(
+    alloc: Global,
+    tables: &Tables<L>,
+    statement: &LoadRows,
+) -> Result<Result<Asks, Refusal>, AllocError>
+    requires sized { AreSized tables.now.tables.items }
+    ensures asked { IfOk result (λ r. IsAsked tables.now.scn tables.now.tables.items (about.Change (Load statement.now)) r) }
+    ensures scanned { IfOk result (λ r. scanned_by r ≡ 0) }
+{
+    let table = match the_table(alloc, tables, &statement.table)? {
+        Ok(table) => table,
+        Err(refusal) => return Ok(Err(refusal)),
+    };
+    let stored = tables.table(table);
+    let rows = match rows_loaded(alloc, stored.def(), statement.rows.as_slice())? {
+        Ok(rows) => rows,
+        Err(refusal) => return Ok(Err(refusal)),
+    };
+    let changes = inserts(alloc, stored.given(), stored.places(), rows.into_vec())?;
+    Ok(Ok(Asks {
+        table,
+        changes,
+        scanned: 0,
+    }))
+}
+
 /// What an UPDATE asks.
 fn update_asks<L>(
     alloc: Global,
@@ -207,7 +238,7 @@ fn change_asked<L>(
     statement: &ChangeStatement,
     reads: &mut Reads<L>,
 ) -> Result<Result<Asks, Refusal>, AllocError>
-    requires checked { IsTrue (is_checked (about.Change statement.now)) }
+    requires sized { AreSized tables.now.tables.items }
     requires room { reads.old ≤ 2 ^ 63 + 2 ^ 51 }
     ensures asked { IfOk result (λ r. IsAsked tables.now.scn tables.now.tables.items (about.Change statement.now) r) }
     ensures raised { IfOk result (λ r. reads.new ≡ reads.old + scanned_by r) }
@@ -227,23 +258,29 @@ fn change_asked<L>(
             let asks = delete_asks(alloc, tables, rows, reads)?;
             Ok(asks)
         }
-        ChangeStatement::Load(_) => unreachable!(),
+        ChangeStatement::Load(rows) => {
+            let asks = load_asks(alloc, tables, rows)?;
+            Ok(asks)
+        }
     }
 }
 
 /// What a statement of a block asks of tables at their SCN, or its first refusal: for a SELECT, and for every other
 /// statement that changes no rows, that it has no place in a block; an unknown table or column; a column that is named
-/// twice; a wrong number or kind of values. Each live row of the table of an UPDATE or a DELETE is read once, and one that
-/// is refused reads none. An error says that memory ran out, or that a sum leaves 128 bits.
+/// twice; a wrong number or kind of values, or of fields of a LOAD. Each live row of the table of an UPDATE or a DELETE is
+/// read once, and one that is refused reads none. An error says that memory ran out, or that a sum leaves 128 bits.
 ///
-/// The statement is no LOAD, and the counter is at most 2^63 + 2^51.
+/// A number of a LOAD that is greater than 10^38 in size is taken for 10^38 with its sign. The second step refuses it as it
+/// refuses the number itself.
+///
+/// The number columns of the tables have at most 15 digits, and the counter is at most 2^63 + 2^51.
 pub fn statement_asked<L>(
     alloc: Global,
     tables: &Tables<L>,
     statement: &Statement,
     reads: &mut Reads<L>,
 ) -> Result<Result<Asks, Refusal>, AllocError>
-    requires checked { IsTrue (is_checked statement.now) }
+    requires sized { AreSized tables.now.tables.items }
     requires room { reads.old ≤ 2 ^ 63 + 2 ^ 51 }
     ensures asked { IfOk result (λ r. IsAsked tables.now.scn tables.now.tables.items statement.now r) }
     ensures raised { IfOk result (λ r. reads.new ≡ reads.old + scanned_by r) }

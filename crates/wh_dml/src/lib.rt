@@ -1,5 +1,5 @@
-//! The first step of the statements that change rows, INSERT, UPDATE and DELETE: names, kinds and numbers of values, the
-//! rows that conditions pick, and the values that a row gets.
+//! The first step of the statements that change rows, INSERT, UPDATE, DELETE and LOAD: names, kinds and numbers of values,
+//! the rows that conditions pick, and the values that a row gets.
 #![tactic(auto)]
 
 mod asking;
