@@ -11,7 +11,7 @@ use Rattle.wh_base.specs.declared.replies.Refusal.{Refusal}
 use Rattle.wh_base.specs.declared.replies.Refusal.TheVariants.{TableFull, VersionsFull}
 use Rattle.wh_base.specs.declared.tables.TableDef.{TableDef}
 use Rattle.wh_check.specs.Fresh.{AreMarked, changes_made, fresh_come, fresh_gone, fresh_of}
-use Rattle.wh_check.specs.Making.{AreWhole, Fails, Goes, HaveShape, ask_step, asked_refusal, asks_of, change_refusal, changes_refusal, done_at, has_places, inserts_in, is_small_change, room_refusal, versions_refusal}
+use Rattle.wh_check.specs.Making.{AreWhole, Fails, Goes, HaveShape, HaveShapeOnceFit, ask_step, asked_refusal, asks_of, change_refusal, changes_refusal, done_at, has_places, inserts_in, is_small_change, room_refusal, versions_refusal}
 use Rattle.wh_check.proofs.Final.{constraints_refusal, final_is, limits, placed_refusal, placed_refusals, whole_at}
 use Rattle.wh_check.proofs.FreshCounts.{counted, fresh_enough, fresh_then}
 use Rattle.wh_check.proofs.FreshMarks.{marks_more}
@@ -86,7 +86,7 @@ def_after scn n tables new cs s t e changed f =
 -- ---- changes of a table
 
 module _ (scn kept : ℕ) (tables : List Stored) (n : ℕ) (cs : List RowChange) (scanned : ℕ) (s : Stored) (e : slice_get tables n ≡ Some s) (there : n < length tables) (whole : AreWhole tables)
-    (stored : All IsStored tables) (settled : All (λ s. last_scn s.versions ≤ scn) tables) (placed : ArePlaced scn s cs) (shape : HaveShape (table_at (base_seen scn tables) n) cs)
+    (stored : All IsStored tables) (settled : All (λ s. last_scn s.versions ≤ scn) tables) (placed : ArePlaced scn s cs) (shape : HaveShapeOnceFit (table_at (base_seen scn tables) n) cs)
     (places : has_places s cs ≡ true) where
   abbrev before : Base
   before = base_seen scn tables
@@ -106,15 +106,22 @@ module _ (scn kept : ℕ) (tables : List Stored) (n : ℕ) (cs : List RowChange)
   after_is : table_at after n ≡ table_after (table_at before n) (map change_of cs)
   after_is = table_in before n (table_after (table_at before n) (map change_of cs)) (subst (λ m. n < m) (sym (length-map tables (seen scn))) there)
 
+  -- the second step
+  rows_are : first_of (changed_row_refusal (table_at before n)) (map change_of cs) ≡ changes_refusal s.def cs
+  rows_are = placed_refusals (table_at before n) cs own_whole ∙ ap (λ (d : TableDef). changes_refusal d cs) own_def
+
+  shape_then : changes_refusal s.def cs ≡ None → HaveShape (table_at before n) cs
+  shape_then fit = shape.once (rows_are ∙ fit)
+
   -- the numbers of the new rows, where none is refused
   small_rows : changes_refusal s.def cs ≡ None → list_all is_small_change cs ≡ true
   small_rows fit =
-      all_small (table_at before n) cs own_whole (each_from (λ (c : RowChange). changed_row_refusal (table_at before n) (change_of c) ≡ None → IsTrue (is_small_change c)) cs shape.small)
+      all_small (table_at before n) cs own_whole (each_from (λ (c : RowChange). changed_row_refusal (table_at before n) (change_of c) ≡ None → IsTrue (is_small_change c)) cs (shape_then fit).small)
       (ap (λ (d : TableDef). changes_refusal d cs) own_def ∙ fit)
 
   -- the table with the changes: new rows alone may be more than it may have
   shown : changes_refusal s.def cs ≡ None → seen scn (all_made scn cs s) ≡ table_after (seen scn s) (map change_of cs)
-  shown fit = by shape.inserts (each_from (λ (c : RowChange). is_none c.old ≡ shape.inserts) cs shape.alike)
+  shown fit = by (shape_then fit).inserts (each_from (λ (c : RowChange). is_none c.old ≡ (shape_then fit).inserts) cs (shape_then fit).alike)
     where
       by : (b : Bool) → Each (λ (c : RowChange). is_none c.old ≡ b) cs → seen scn (all_made scn cs s) ≡ table_after (seen scn s) (map change_of cs)
       by true each = all_inserted scn s cs (are_named scn s (stored_at tables n s stored e) (settled_at scn tables n s settled e)) placed.next each
@@ -141,15 +148,14 @@ module _ (scn kept : ℕ) (tables : List Stored) (n : ℕ) (cs : List RowChange)
       ≡ stop_at at (had + scanned) (first_some (changes_refusal s.def cs ∷ final_refusal after n kept (done ++ changes_made n cs) ∷ []))
       (record { base = after; changes = done ++ changes_made n cs; scanned = had + scanned })
   step_is at done had =
-      let rows : first_of (changed_row_refusal (table_at before n)) (map change_of cs) ≡ changes_refusal s.def cs = placed_refusals (table_at before n) cs own_whole ∙ ap (λ (d : TableDef). changes_refusal d cs) own_def in
-      (λ i. stop_at at (had + scanned) (first_some (rows i ∷ final_refusal after n kept (done ++ made_is n cs i) ∷ [])) (record { base = after; changes = done ++ made_is n cs i; scanned = had + scanned }))
+      (λ i. stop_at at (had + scanned) (first_some (rows_are i ∷ final_refusal after n kept (done ++ made_is n cs i) ∷ [])) (record { base = after; changes = done ++ made_is n cs i; scanned = had + scanned }))
 
   rows_now : length (table_at before n).rows ≡ live_count s
   rows_now = ap (λ (t : Table). length t.rows) seen_is ∙ rows_seen scn s (settled_at scn tables n s settled e)
 
   -- a table that would have too many rows gets new ones alone
-  full : max_rows < live_count s + inserts_in cs → max_rows < length (table_at after n).rows
-  full over = by shape.inserts (each_from (λ (c : RowChange). is_none c.old ≡ shape.inserts) cs shape.alike)
+  full : changes_refusal s.def cs ≡ None → max_rows < live_count s + inserts_in cs → max_rows < length (table_at after n).rows
+  full fit over = by (shape_then fit).inserts (each_from (λ (c : RowChange). is_none c.old ≡ (shape_then fit).inserts) cs (shape_then fit).alike)
     where
       by : (b : Bool) → Each (λ (c : RowChange). is_none c.old ≡ b) cs → max_rows < length (table_at after n).rows
       by true each =
@@ -165,18 +171,18 @@ module _ (scn kept : ℕ) (tables : List Stored) (n : ℕ) (cs : List RowChange)
   pub refused : (code : Refusal) → asked_refusal scn tables n s cs ≡ Some code → Fails (ask_step kept (asks_of n cs scanned)) scn tables code scanned
   refused code h = record { is = λ at done had marked. step_is at done had ∙ ap (λ o. stop_at at (had + scanned) o (record { base = after; changes = done ++ changes_made n cs; scanned = had + scanned })) (by_rows (changes_refusal s.def cs) refl h (done ++ changes_made n cs)) }
     where
-      by_room : (b : Bool) → nat_lt max_rows (live_count s + inserts_in cs) ≡ b → first_some (where_true b (TableFull s.def.name) ∷ []) ≡ Some code → (changes : List TableChange)
+      by_room : (b : Bool) → changes_refusal s.def cs ≡ None → nat_lt max_rows (live_count s + inserts_in cs) ≡ b → first_some (where_true b (TableFull s.def.name) ∷ []) ≡ Some code → (changes : List TableChange)
           → first_some (limits s.def.name (length (table_at after n).rows) (kept + new_versions after changes)) ≡ Some code
-      by_room true over same changes =
-          let more : max_rows < length (table_at after n).rows = full (ltb-true max_rows (live_count s + inserts_in cs) over) in
+      by_room true fit over same changes =
+          let more : max_rows < length (table_at after n).rows = full fit (ltb-true max_rows (live_count s + inserts_in cs) over) in
           ap (λ b. first_some (where_true b (TableFull s.def.name) ∷ where_true (nat_lt max_versions (kept + new_versions after changes)) (VersionsFull s.def.name) ∷ [])) (lt-ltb max_rows (length (table_at after n).rows) more)
           ∙ same
-      by_room false over same changes = absurd (cc)
+      by_room false fit over same changes = absurd (cc)
 
-      by_keys : (o : Option Refusal) → first_some (o ∷ room_refusal s cs ∷ []) ≡ Some code → (changes : List TableChange)
+      by_keys : (o : Option Refusal) → changes_refusal s.def cs ≡ None → first_some (o ∷ room_refusal s cs ∷ []) ≡ Some code → (changes : List TableChange)
           → first_some (o ∷ limits s.def.name (length (table_at after n).rows) (kept + new_versions after changes)) ≡ Some code
-      by_keys (Some r) same changes = same
-      by_keys None same changes = by_room (nat_lt max_rows (live_count s + inserts_in cs)) refl same changes
+      by_keys (Some r) fit same changes = same
+      by_keys None fit same changes = by_room (nat_lt max_rows (live_count s + inserts_in cs)) fit refl same changes
 
       only : (o : Option Refusal) → first_some (o ∷ []) ≡ o
       only None = refl
@@ -186,7 +192,7 @@ module _ (scn kept : ℕ) (tables : List Stored) (n : ℕ) (cs : List RowChange)
           → first_some (changes_refusal s.def cs ∷ final_refusal after n kept changes ∷ []) ≡ Some code
       by_rows (Some r) is same changes = ap (λ o. first_some (o ∷ final_refusal after n kept changes ∷ [])) is ∙ same
       by_rows None is same changes =
-          ap (λ o. first_some (o ∷ final_refusal after n kept changes ∷ [])) is ∙ only (final_refusal after n kept changes) ∙ final is changes ∙ by_keys (keys_refusal scn tables n cs) same changes
+          ap (λ o. first_some (o ∷ final_refusal after n kept changes ∷ [])) is ∙ only (final_refusal after n kept changes) ∙ final is changes ∙ by_keys (keys_refusal scn tables n cs) is same changes
 
   -- what is so once nothing is refused before the changes are made
   module _ (none : asked_refusal scn tables n s cs ≡ None) where
@@ -208,12 +214,12 @@ module _ (scn kept : ℕ) (tables : List Stored) (n : ℕ) (cs : List RowChange)
     room = ltb-false max_rows (live_count s + inserts_in cs) (not_true (nat_lt max_rows (live_count s + inserts_in cs)) (TableFull s.def.name) room_is)
 
     few_rows : length cs ≤ max_rows
-    few_rows = by shape.inserts refl (each_from (λ (c : RowChange). is_none c.old ≡ shape.inserts) cs shape.alike)
+    few_rows = by (shape_then rows_fit).inserts refl (each_from (λ (c : RowChange). is_none c.old ≡ (shape_then rows_fit).inserts) cs (shape_then rows_fit).alike)
       where
-        by : (b : Bool) → shape.inserts ≡ b → Each (λ (c : RowChange). is_none c.old ≡ b) cs → length cs ≤ max_rows
+        by : (b : Bool) → (shape_then rows_fit).inserts ≡ b → Each (λ (c : RowChange). is_none c.old ≡ b) cs → length cs ≤ max_rows
         by true is each = let count = all_inserts cs each in let most = room in omega (arith, count, most)
         by false is each =
-            let most = shape.few is in
+            let most = (shape_then rows_fit).few is in
             let had = rows_now in
             let few = live_few s (stored_at tables n s stored e) in
             omega (arith, most, had, few)

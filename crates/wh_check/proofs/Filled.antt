@@ -9,7 +9,7 @@ use Rattle.wh_base.specs.Lists.{has_number}
 use Rattle.wh_base.specs.Values.{value_cmp}
 use Rattle.wh_base.specs.declared.tables.ForeignDef.{ForeignDef}
 use Rattle.wh_base.specs.declared.tables.TableDef.{TableDef}
-use Rattle.wh_check.specs.Effects.{is_sized_def}
+use Rattle.wh_load.specs.Sized.{is_sized_def}
 use Rattle.wh_check.proofs.FreshSteps.{none_not_some}
 use Rattle.wh_constraints.specs.Constraints.{AreRight, RefersBack, TableFits}
 use Rattle.wh_key_law.specs.Fitting.{KeyFits, ValuesFit}

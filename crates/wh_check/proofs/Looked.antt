@@ -7,9 +7,9 @@ use Rattle.def_effect.specs.Block.{max_rows}
 use Rattle.wh_base.specs.Lists.{put_in_order, sort_onto}
 use Rattle.wh_base.specs.Tables.{Base, Table, defs_of as base_defs, rowid_cmp, table_at, with_table}
 use Rattle.wh_base.specs.declared.tables.RowAt.{RowAt}
-use Rattle.wh_check.specs.Effects.{is_sized_def}
-use Rattle.wh_check.specs.Making.{AreSized}
 use Rattle.wh_check.proofs.FreshSteps.{none_not_some, some_same}
+use Rattle.wh_dml.specs.Sized.{AreSized}
+use Rattle.wh_load.specs.Sized.{is_sized_def}
 use Rattle.wh_table.specs.Kept.{defs_of}
 use Rattle.wh_table.specs.Stored.{IsStored, Stored, base_seen, last_scn, live_count, plain_row, rows_living, seen}
 use Rattle.wh_table.proofs.Counting.{each_from, each_get}

@@ -9,15 +9,17 @@ use Rattle.wh_base.specs.Tables.{Base, TableChange}
 use Rattle.wh_base.specs.declared.replies.Refusal.{Refusal}
 use Rattle.wh_base.specs.declared.statements.Statement.{Statement}
 use Rattle.wh_base.specs.declared.tables.TableDef.{TableDef}
-use Rattle.wh_check.specs.Effects.{Makes, is_sized_def}
+use Rattle.wh_check.specs.Effects.{Makes}
 use Rattle.wh_check.specs.Fresh.{AreMarked, changes_made, fresh_of}
-use Rattle.wh_check.specs.Making.{AreSized, AreWhole, Fails, Goes, done_at, statement_step}
+use Rattle.wh_check.specs.Making.{AreWhole, Fails, Goes, done_at, statement_step}
 use Rattle.wh_check.proofs.FreshCounts.{counted, fresh_none}
 use Rattle.wh_check.proofs.FreshMarks.{marks_none}
 use Rattle.wh_constraints.specs.Constraints.{AreRight}
+use Rattle.wh_dml.specs.Sized.{AreSized}
 use Rattle.wh_image.specs.Laws.{is_in}
 use Rattle.wh_image.specs.Standing.{changed_at, is_change}
 use Rattle.wh_keys.specs.Indexes.{Indexes}
+use Rattle.wh_load.specs.Sized.{is_sized_def}
 use Rattle.wh_table.specs.Kept.{defs_of}
 use Rattle.wh_table.specs.Stored.{IsStored, Stored, base_seen, last_scn}
 use Rattle.wh_table.proofs.Counting.{all_from, each_from}
@@ -111,21 +113,6 @@ begins scn kept tables statements now_scn now settled next same few =
 pub cut_at : (statements : List Statement) (at : ℕ) (st : Statement) → at < length statements → st ≡ get_or statements at st → drop at statements ≡ st ∷ drop (at + 1) statements
 cut_at statements at st less is = drop_more statements at st less ∙ ap (λ s. s ∷ drop (at + 1) statements) (sym is)
 
--- what holds of all holds of those behind the first
-pub rest_all : {A : Type 0} (p : A → Bool) (x : A) (xs : List A) → IsTrue (list_all p (x ∷ xs)) → IsTrue (list_all p xs)
-rest_all p x xs h = by (p x) h
-  where
-    by : (b : Bool) → IsTrue (b && list_all p xs) → IsTrue (list_all p xs)
-    by true k = k
-    by false k = cc
-
-pub first_all : {A : Type 0} (p : A → Bool) (x : A) (xs : List A) → IsTrue (list_all p (x ∷ xs)) → IsTrue (p x)
-first_all p x xs h = by (p x) h
-  where
-    by : (b : Bool) → IsTrue (b && list_all p xs) → IsTrue b
-    by true k = refl
-    by false k = cc
-
 is_in_append : (xs ys : List TableChange) (m : ℕ) → is_in (xs ++ ys) m ≡ (is_in xs m || is_in ys m)
 is_in_append [] ys m = refl
 is_in_append (x ∷ xs) ys m = ap (λ b. (x.table == m) || b) (is_in_append xs ys m) ∙ grouped (x.table == m) (is_in xs m) (is_in ys m)
@@ -209,4 +196,4 @@ all_done scn kept tables statements at now_scn now rows fresh read versions w st
   read_is = refl;
 }
 
-pub ruleset running = (fresh_now, few_now, above_now, first_all)
+pub ruleset running = (fresh_now, few_now, above_now)

@@ -6,7 +6,7 @@ use Rattle.std.proofs.lemmas.Bool.Decides.{nat_tests}
 use Rattle.std.proofs.lemmas.List.{length-map}
 use Rattle.std.proofs.Math.Nat.{pow-le-pow_right}
 use Rattle.std.specs.List.{All, enumerate_from, list_all, position_or_len}
-use Rattle.def_effect.specs.Block.{Asks, changed_row_refusal, column_refusal, conditions_unknown, deleted_change, fits_kind, full_row, given_row_refusal, has_no_partition, insert_changes, inserted_change, moves_row, named_places, own_column, own_kinds_refusal, place_of, repeated_column, row_meets, set_names, set_or_old, set_refusal, set_value, statement_asks, unknown_column, updated_change, updated_row}
+use Rattle.def_effect.specs.Block.{Asks, changed_row_refusal, column_refusal, conditions_unknown, deleted_change, fits_kind, full_row, given_row_refusal, has_no_partition, insert_changes, inserted_change, load_row_refusal, loaded_row, moves_row, named_places, own_column, own_kinds_refusal, place_of, repeated_column, row_meets, set_names, set_or_old, set_refusal, set_value, statement_asks, unknown_column, updated_change, updated_row}
 use Rattle.wh_base.specs.Lists.{count_from, first_of, first_some, option_case, or_refuse, put_in_order, same_text, sort_onto, unless, where_true, ◌>>=◌}
 use Rattle.wh_base.specs.Tables.{Base, Row, Table, column_number, defs_of, rowid_cmp, table_at, table_number}
 use Rattle.wh_base.specs.Values.{given_value, is_null, is_small}
@@ -16,6 +16,7 @@ use Rattle.wh_base.specs.declared.replies.Refusal.TheVariants.{NoPartition, NoSu
 use Rattle.wh_base.specs.declared.statements.ChangeStatement.TheVariants.{Delete, Insert, Load, Update}
 use Rattle.wh_base.specs.declared.statements.DeleteRows.{DeleteRows}
 use Rattle.wh_base.specs.declared.statements.InsertRows.{InsertRows}
+use Rattle.wh_base.specs.declared.statements.LoadRows.{LoadRows}
 use Rattle.wh_base.specs.declared.statements.SetColumn.{SetColumn}
 use Rattle.wh_base.specs.declared.statements.Statement.{Statement}
 use Rattle.wh_base.specs.declared.statements.Statement.TheVariants as about
@@ -28,12 +29,14 @@ use Rattle.wh_base.specs.declared.tables.RowAt.{RowAt}
 use Rattle.wh_base.specs.declared.tables.TableDef.{TableDef}
 use Rattle.wh_base.specs.declared.values.Value.{Value}
 use Rattle.wh_base.specs.declared.values.Value.TheVariants.{Null, Num, Ratio, Text}
-use Rattle.wh_dml.specs.Asked.{AsksFor, is_checked}
-use Rattle.wh_check.specs.Effects.{is_sized_def, kind_is_sized}
-use Rattle.wh_check.specs.Making.{AreSized, HaveShape, is_small_change}
+use Rattle.wh_dml.specs.Asked.{AsksFor}
+use Rattle.wh_check.specs.Making.{HaveShape, HaveShapeOnceFit, is_small_change}
 use Rattle.wh_dml.specs.Changes.{change_of}
+use Rattle.wh_dml.specs.Sized.{AreSized}
 use Rattle.wh_dml.specs.declared.changes.PlacedRow.{PlacedRow}
 use Rattle.wh_dml.specs.declared.changes.RowChange.{RowChange}
+use Rattle.wh_load.specs.Capped.{loaded_value}
+use Rattle.wh_load.specs.Sized.{is_sized_def, kind_is_sized}
 use Rattle.wh_table.specs.Stored.{IsStored, Stored, base_seen, plain_row, rows_living, seen}
 use Rattle.wh_table.proofs.Counting.{all_from, each_from}
 use Rattle.wh_table.proofs.Ordered.{Each}
@@ -67,15 +70,15 @@ fits_column d c v h = by (fits_kind c.kind v) refl h
 both_true : (x y : Bool) → x ≡ true → y ≡ true → (x && y) ≡ true
 both_true x y h k = ap (λ b. b && y) h ∙ k
 
--- a row with a value for each column
-small_row : (d : TableDef) (cs : List ColumnDef) (vs : List Value) → length vs ≡ length cs → list_all (λ c. kind_is_sized c.kind) cs ≡ true → first_of (column_refusal d) (zip cs vs) ≡ None → list_all is_small vs ≡ true
-small_row d [] [] same h e = refl
-small_row d [] (v ∷ vs) same h e = absurd (omega (arith, same))
-small_row d (c ∷ cs) [] same h e = absurd (omega (arith, same))
-small_row d (c ∷ cs) (v ∷ vs) same h e =
+-- a row with a value for each column, or for the first of them
+small_row : (d : TableDef) (cs : List ColumnDef) (vs : List Value) → length vs ≤ length cs → list_all (λ c. kind_is_sized c.kind) cs ≡ true → first_of (column_refusal d) (zip cs vs) ≡ None → list_all is_small vs ≡ true
+small_row d [] [] few h e = refl
+small_row d [] (v ∷ vs) few h e = absurd (omega (arith, few))
+small_row d (c ∷ cs) [] few h e = refl
+small_row d (c ∷ cs) (v ∷ vs) few h e =
     let kinds = and_parts (kind_is_sized c.kind) (list_all (λ c. kind_is_sized c.kind) cs) h in
     let none = first_none (column_refusal d (c, v)) (map (column_refusal d) (zip cs vs)) e in
-    both_true (is_small v) (list_all is_small vs) (small_value c.kind v kinds.0 (fits_column d c v none.0)) (small_row d cs vs (omega (arith, same)) kinds.1 none.1)
+    both_true (is_small v) (list_all is_small vs) (small_value c.kind v kinds.0 (fits_column d c v none.0)) (small_row d cs vs (omega (arith, few)) kinds.1 none.1)
 
 -- values that are set in these columns at the most
 abbrev AreBelow : ℕ → List (ℕ × Value) → Type 0
@@ -206,14 +209,18 @@ row_parts : (t : Table) (old : Option (List Value)) (new : List Value) → first
     → first_of (column_refusal t.def) (zip t.def.columns new) ≡ None
 row_parts t old new h = (first_none (first_of (column_refusal t.def) (zip t.def.columns new)) _ h).0
 
-inserted_shape : (t : Table) (rows : List (List (ℕ × Value))) → is_sized_def t.def ≡ true → AreShaped t (insert_changes t (map (full_row t.def) rows))
-inserted_shape t rows sized = record { small = smalls (suc t.given) rows; inserts = true; alike = news (suc t.given) rows; few = λ e. absurd (true≢false e) }
-  where
-    smalls : (k : ℕ) (rows : List (List (ℕ × Value))) → Each (λ (c : Change). changed_row_refusal t c ≡ None → is_small_row c.new ≡ true) (map inserted_change (enumerate_from k (map (full_row t.def) rows)))
-    smalls k [] = tt
-    smalls k (r ∷ rows) = ((λ h. small_row t.def t.def.columns (full_row t.def r) (length_full t.def r) sized (row_parts t None (full_row t.def r) h)), smalls (k + 1) rows)
+-- no row has more values than the table has columns
+abbrev AreWithin : TableDef → List (List Value) → Type 0
+AreWithin d rows = Each (λ (vs : List Value). length vs ≤ length d.columns) rows
 
-    news : (k : ℕ) (rows : List (List (ℕ × Value))) → Each (λ (c : Change). is_none c.old ≡ true) (map inserted_change (enumerate_from k (map (full_row t.def) rows)))
+inserted_shape : (t : Table) (rows : List (List Value)) → AreWithin t.def rows → is_sized_def t.def ≡ true → AreShaped t (insert_changes t rows)
+inserted_shape t rows within sized = record { small = smalls (suc t.given) rows within; inserts = true; alike = news (suc t.given) rows; few = λ e. absurd (true≢false e) }
+  where
+    smalls : (k : ℕ) (rows : List (List Value)) → AreWithin t.def rows → Each (λ (c : Change). changed_row_refusal t c ≡ None → is_small_row c.new ≡ true) (map inserted_change (enumerate_from k rows))
+    smalls k [] few = tt
+    smalls k (r ∷ rows) few = ((λ h. small_row t.def t.def.columns r few.0 sized (row_parts t None r h)), smalls (k + 1) rows few.1)
+
+    news : (k : ℕ) (rows : List (List Value)) → Each (λ (c : Change). is_none c.old ≡ true) (map inserted_change (enumerate_from k rows))
     news k [] = tt
     news k (r ∷ rows) = (refl, news (k + 1) rows)
 
@@ -286,9 +293,18 @@ small_in (t ∷ base) (suc n) h = small_in base n h.1
 abbrev AreShapedIn : Base → Asks → Type 0
 AreShapedIn base a = AreShaped (table_at base a.table) a.changes
 
-full_rows : (d : TableDef) (places : List ℕ) (rows : List (List Value)) → map (λ r. full_row d (zip places r)) rows ≡ map (full_row d) (map (λ r. zip places r) rows)
-full_rows d places [] = refl
-full_rows d places (r ∷ rows) = ap (λ vs. full_row d (zip places r) ∷ vs) (full_rows d places rows)
+full_within : (d : TableDef) (places : List ℕ) (rows : List (List Value)) → AreWithin d (map (λ r. full_row d (zip places r)) rows)
+full_within d places [] = tt
+full_within d places (r ∷ rows) = ((let same = length_full d (zip places r) in omega (arith, same)), full_within d places rows)
+
+line_within : (cs : List ColumnDef) (fields : List (List ℕ)) → length (map loaded_value (zip cs fields)) ≤ length cs
+line_within [] fields = omega arith
+line_within (c ∷ cs) [] = omega arith
+line_within (c ∷ cs) (f ∷ fields) = let rest = line_within cs fields in omega (arith, rest)
+
+loaded_within : (d : TableDef) (rows : List (List (List ℕ))) → AreWithin d (map (loaded_row d) rows)
+loaded_within d [] = tt
+loaded_within d (r ∷ rows) = (line_within d.columns r, loaded_within d rows)
 
 -- what refuses a statement of a table, and what it asks else
 abbrev insert_refused : TableDef → InsertRows → Option Refusal
@@ -314,10 +330,15 @@ asked n cs scanned = record { table = n; changes = cs; scanned = scanned }
 insert_shape : (base : Base) (s : InsertRows) (n : ℕ) → AreFit base → EachOk (AreShapedIn base) (unless (insert_refused (table_at base n).def s) (asked n (insert_changes (table_at base n) (inserted_rows (table_at base n).def s)) 0))
 insert_shape base s n fit =
     let t : Table = table_at base n in
-    let places : List ℕ = named_places (table_at base n).def s.columns in
-    let rows : List (List Value) = map (map given_value) s.rows in
     unless_ok (AreShapedIn base) (insert_refused (table_at base n).def s) (asked n (insert_changes (table_at base n) (inserted_rows (table_at base n).def s)) 0)
-    (λ none. subst (λ all. AreShaped t (insert_changes t all)) (sym (full_rows t.def places rows)) (inserted_shape t (map (λ r. zip places r) rows) (sized_in base n fit.sized)))
+    (λ none. inserted_shape t (inserted_rows t.def s) (full_within t.def (named_places t.def s.columns) (map (map given_value) s.rows)) (sized_in base n fit.sized))
+
+load_shape : (base : Base) (s : LoadRows) (n : ℕ) → AreFit base
+    → EachOk (AreShapedIn base) (unless (first_of (load_row_refusal (table_at base n).def) s.rows) (asked n (insert_changes (table_at base n) (map (loaded_row (table_at base n).def) s.rows)) 0))
+load_shape base s n fit =
+    let t : Table = table_at base n in
+    unless_ok (AreShapedIn base) (first_of (load_row_refusal t.def) s.rows) (asked n (insert_changes t (map (loaded_row t.def) s.rows)) 0)
+    (λ none. inserted_shape t (map (loaded_row t.def) s.rows) (loaded_within t.def s.rows) (sized_in base n fit.sized))
 
 update_shape : (base : Base) (s : UpdateRows) (n : ℕ) → AreFit base
     → EachOk (AreShapedIn base) (unless (first_some (unknown_column (table_at base n).def (flat_map set_names s.sets) ∷ update_refused n (table_at base n).def s))
@@ -338,19 +359,21 @@ delete_shape base s n fit =
     unless_ok (AreShapedIn base) (delete_refused n t.def s) (asked n (map deleted_change (picked n t s.conditions)) (length t.rows))
     (λ none. deleted_shape t (picked n t s.conditions) (few_picked (λ r. row_meets n t.def s.conditions r.values) t.rows))
 
-shape_of : (base : Base) (s : Statement) → is_checked s ≡ true → AreFit base → EachOk (AreShapedIn base) (statement_asks base s)
-shape_of base (about.Change (Insert s)) h fit =
+shape_of : (base : Base) (s : Statement) → AreFit base → EachOk (AreShapedIn base) (statement_asks base s)
+shape_of base (about.Change (Insert s)) fit =
     bind_ok (AreShapedIn base) (table_number (defs_of base) s.table) (NoSuchObject s.table)
     (λ n. unless (insert_refused (table_at base n).def s) (asked n (insert_changes (table_at base n) (inserted_rows (table_at base n).def s)) 0)) (λ n. insert_shape base s n fit)
-shape_of base (about.Change (Update s)) h fit =
+shape_of base (about.Change (Update s)) fit =
     bind_ok (AreShapedIn base) (table_number (defs_of base) s.table) (NoSuchObject s.table)
     (λ n. unless (first_some (unknown_column (table_at base n).def (flat_map set_names s.sets) ∷ update_refused n (table_at base n).def s))
     (asked n (map (updated_change (table_at base n).def s.sets) (picked n (table_at base n) s.conditions)) (length (table_at base n).rows))) (λ n. update_shape base s n fit)
-shape_of base (about.Change (Delete s)) h fit =
+shape_of base (about.Change (Delete s)) fit =
     bind_ok (AreShapedIn base) (table_number (defs_of base) s.table) (NoSuchObject s.table)
     (λ n. unless (delete_refused n (table_at base n).def s) (asked n (map deleted_change (picked n (table_at base n) s.conditions)) (length (table_at base n).rows))) (λ n. delete_shape base s n fit)
-shape_of base (about.Change (Load s)) h fit = absurd (true≢false (sym h))
-shape_of base _ h fit = tt
+shape_of base (about.Change (Load s)) fit =
+    bind_ok (AreShapedIn base) (table_number (defs_of base) s.table) (NoSuchObject s.table)
+    (λ n. unless (first_of (load_row_refusal (table_at base n).def) s.rows) (asked n (insert_changes (table_at base n) (map (loaded_row (table_at base n).def) s.rows)) 0)) (λ n. load_shape base s n fit)
+shape_of base _ fit = tt
 
 -- ---- in the words of tables
 
@@ -382,8 +405,10 @@ shaped_placed t cs h = record {
   few = λ e. (let count = length-map cs change_of in let most = h.few e in omega (arith, count, most));
 }
 
-pub have_shape : (scn : ℕ) (tables : List Stored) (s : Statement) (n : ℕ) (cs : List RowChange) (scanned : ℕ) → IsTrue (is_checked s) → All IsStored tables → AreSized tables
-    → AsksFor scn tables s n cs scanned → HaveShape (table_at (base_seen scn tables) n) cs
-have_shape scn tables s n cs scanned h stored sized asks =
+pub have_shape : (scn : ℕ) (tables : List Stored) (s : Statement) (n : ℕ) (cs : List RowChange) (scanned : ℕ) → All IsStored tables → AreSized tables
+    → AsksFor scn tables s n cs scanned → HaveShapeOnceFit (table_at (base_seen scn tables) n) cs
+have_shape scn tables s n cs scanned stored sized asks =
+    let base : Base = base_seen scn tables in
     let fit = fit_seen scn tables (each_from (λ (s : Stored). IsTrue (is_sized_def s.def)) tables sized.all) (each_from IsStored tables stored) in
-    shaped_placed (table_at (base_seen scn tables) n) cs (subst (EachOk (AreShapedIn (base_seen scn tables))) asks.is (shape_of (base_seen scn tables) s h fit))
+    let shaped : AreShaped (table_at base n) asks.asked = subst (EachOk (AreShapedIn base)) asks.is (shape_of base s fit) in
+    record { once = λ none. shaped_placed (table_at base n) cs (subst (AreShaped (table_at base n)) (asks.same (asks.refused ∙ none)) shaped) }

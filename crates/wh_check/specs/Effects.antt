@@ -1,35 +1,13 @@
 -- What a block makes of tables and their indexes, or where it stops.
-use Rattle.std.specs.List.{list_all}
-use Rattle.std.specs.Prelude.{◌≡◌, ◌+◌, Bool, Err, List, Ok, Result, Some, false, length, nat_le, true, ℕ}
+use Rattle.std.specs.Prelude.{◌≡◌, ◌+◌, Err, List, Ok, Result, Some, length, ℕ}
 use Rattle.wh_base.specs.declared.replies.Refused.{Refused}
-use Rattle.wh_base.specs.declared.statements.ChangeStatement.TheVariants.{Insert}
 use Rattle.wh_base.specs.declared.statements.Statement.{Statement}
-use Rattle.wh_base.specs.declared.statements.Statement.TheVariants as about
-use Rattle.wh_base.specs.declared.tables.Kind.{Kind}
-use Rattle.wh_base.specs.declared.tables.Kind.TheVariants.{Number, Text}
-use Rattle.wh_base.specs.declared.tables.TableDef.{TableDef}
 use Rattle.def_effect.specs.Block.{Progress, Stopped, effect, new_versions}
 use Rattle.wh_check.specs.declared.block.Checked.{Checked}
 use Rattle.wh_constraints.specs.Constraints.{AreRight}
 use Rattle.wh_image.specs.Laws.{Leaves}
 use Rattle.wh_keys.specs.Indexes.{Indexes}
 use Rattle.wh_table.specs.Stored.{Stored, base_seen}
-
--- ---- what a block and its tables have to be
-
-abbrev pub is_insert : Statement → Bool
-is_insert (about.Change (Insert s)) = true
-is_insert s = false
-
--- a number column has at most 15 digits
-abbrev pub kind_is_sized : Kind → Bool
-kind_is_sized (Number p) = nat_le p 15
-kind_is_sized (Text n) = true
-
-abbrev pub is_sized_def : TableDef → Bool
-is_sized_def d = list_all (λ c. kind_is_sized c.kind) d.columns
-
--- ---- what comes of it
 
 -- The block over these tables goes through: it leaves those tables at the next SCN, made so many changes, leaves so many kept row versions and scanned so many rows.
 pub record Makes (scn : ℕ) (tables : List Stored) (kept : ℕ) (statements : List Statement) (after_scn : ℕ) (after : List Stored) (rows versions read : ℕ) : Type 0 where

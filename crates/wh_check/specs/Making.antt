@@ -10,7 +10,6 @@ use Rattle.wh_base.specs.declared.replies.Refusal.{Refusal}
 use Rattle.wh_base.specs.declared.replies.Refusal.TheVariants.{TableFull, VersionsFull}
 use Rattle.wh_base.specs.declared.statements.Statement.{Statement}
 use Rattle.wh_base.specs.declared.tables.TableDef.{TableDef}
-use Rattle.wh_check.specs.Effects.{is_sized_def}
 use Rattle.wh_check.specs.Fresh.{AreMarked, changes_made, fresh_come, fresh_of}
 use Rattle.wh_check.specs.Rows.{row_refusal}
 use Rattle.wh_check.specs.declared.statement.Made.{Made}
@@ -30,10 +29,6 @@ use Rattle.wh_table.specs.Stored.{Stored, base_seen, live_count}
 -- no table has partitions
 pub record AreWhole (tables : List Stored) : Type 0 where
   pub all : All (λ s. s.def.part_key ≡ None) tables
-
--- the kinds of all columns are within their sizes
-pub record AreSized (tables : List Stored) : Type 0 where
-  pub all : All (λ s. IsTrue (is_sized_def s.def)) tables
 
 -- ---- changes
 
@@ -80,6 +75,10 @@ pub record HaveShape (t : Table) (cs : List RowChange) : Type 0 where
   pub inserts : Bool
   pub alike : All (λ c. is_none c.old ≡ inserts) cs
   pub few : inserts ≡ false → length cs ≤ length t.rows
+
+-- That is so of the changes once none of them is refused in the second step.
+pub record HaveShapeOnceFit (t : Table) (cs : List RowChange) : Type 0 where
+  pub once : first_of (changed_row_refusal t) (map change_of cs) ≡ None → HaveShape t cs
 
 -- ---- what comes of a statement
 

@@ -1,10 +1,10 @@
 //! A block of statements, one after another over a copy of the tables.
-ghost use Rattle.std.specs.List.{All, list_all};
+ghost use Rattle.std.specs.List.{All};
 ghost use Rattle.std.specs.Prelude.{◌≡◌, ◌+◌, ◌-◌, ◌<◌, ◌≤◌, ◌^◌, IfOk, IsTrue, None, OnErr};
 ghost use Rattle.def_effect.specs.Block.{max_versions};
-ghost use Rattle.wh_dml.specs.Asked.{is_checked};
-ghost use Rattle.wh_check.specs.Effects.{AreKept, IsOutcome, KeysLeft, is_sized_def, read_by};
+ghost use Rattle.wh_check.specs.Effects.{AreKept, IsOutcome, KeysLeft, read_by};
 ghost use Rattle.wh_constraints.specs.Constraints.{AreRight};
+ghost use Rattle.wh_load.specs.Sized.{is_sized_def};
 
 use crate::statement::run_statement;
 use std::alloc::{AllocError, Global};
@@ -48,7 +48,6 @@ fn run_block<L>(
     statements: &[Statement],
     reads: &mut Reads<L>,
 ) -> Result<Result<Checked<L>, Refused>, AllocError>
-    requires checked { IsTrue (list_all is_checked statements.now) }
     requires whole { All (λ s. s.def.part_key ≡ None) tables.now.tables.items }
     requires sized { All (λ s. IsTrue (is_sized_def s.def)) tables.now.tables.items }
     requires right { AreRight tables.now.scn tables.now.tables.items keys.old.now }
@@ -99,8 +98,8 @@ fn run_block<L>(
 /// The indexes are those of the tables, and no block is open in them. Afterwards they are those of the tables that the block
 /// leaves; after a refusal and after an error they are as they were. No block is open in them then, either.
 ///
-/// A statement is an INSERT, an UPDATE or a DELETE; any other but LOAD is refused. The tables have no partitions, their
-/// number columns have at most 15 digits, each enabled foreign key holds, and the SCN isn't the last.
+/// A statement is an INSERT, an UPDATE, a DELETE or a LOAD; any other is refused. The tables have no partitions, their number
+/// columns have at most 15 digits, each enabled foreign key holds, and the SCN isn't the last.
 ///
 /// An error says that memory ran out, that there are 2^32 - 1 statements or more, that a table has no places left, that the
 /// block has more changes than the indexes can take back, or that a sum of an UPDATE leaves 128 bits.
@@ -115,7 +114,6 @@ pub fn check_block<L>(
     statements: &[Statement],
     reads: &mut Reads<L>,
 ) -> Result<Result<Checked<L>, Refused>, AllocError>
-    requires checked { IsTrue (list_all is_checked statements.now) }
     requires whole { All (λ s. s.def.part_key ≡ None) tables.now.tables.items }
     requires sized { All (λ s. IsTrue (is_sized_def s.def)) tables.now.tables.items }
     requires right { AreRight tables.now.scn tables.now.tables.items keys.old.now }

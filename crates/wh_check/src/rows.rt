@@ -2,9 +2,9 @@
 ghost use Rattle.std.specs.List.{list_all, list_any};
 ghost use Rattle.std.specs.Prelude.{◌≡◌, ◌≤◌, ◌^◌, IfOk, IsTrue, nat_abs, nat_lt};
 ghost use Rattle.def_effect.specs.Block.{byte_is_barred, column_refusal, fits_kind};
-ghost use Rattle.wh_check.specs.Effects.{is_sized_def, kind_is_sized};
 ghost use Rattle.wh_check.specs.Making.{change_refusal, changes_refusal};
 ghost use Rattle.wh_check.specs.Rows.{row_refusal, size_refusal, sizes_refusal};
+ghost use Rattle.wh_load.specs.Sized.{is_sized_def, kind_is_sized};
 
 use std::alloc::{AllocError, Global};
 use wh_base::replies::Refusal;

@@ -1,12 +1,12 @@
 //! One statement of a block.
-ghost use Rattle.std.specs.Prelude.{◌≡◌, ◌+◌, ◌<◌, ◌≤◌, ◌^◌, IfOk, IfSome, IsTrue, None, OnOk, length, slice_get, true};
+ghost use Rattle.std.specs.Prelude.{◌≡◌, ◌+◌, ◌<◌, ◌≤◌, ◌^◌, IfOk, IfSome, None, OnOk, length, slice_get, true};
 ghost use Rattle.def_effect.specs.Block.{max_versions};
 ghost use Rattle.wh_base.specs.Tables.{most_live, table_at};
-ghost use Rattle.wh_dml.specs.Asked.{is_checked};
 ghost use Rattle.wh_check.specs.Fresh.{fresh_of};
-ghost use Rattle.wh_check.specs.Making.{AreSized, AreWhole, Ends, HaveShape, StayRight, ask_step, asked_refusal, asks_of, has_places, inserts_in, read_in, room_refusal, statement_step, versions_refusal};
+ghost use Rattle.wh_check.specs.Making.{AreWhole, Ends, HaveShapeOnceFit, StayRight, ask_step, asked_refusal, asks_of, has_places, inserts_in, read_in, room_refusal, statement_step, versions_refusal};
 ghost use Rattle.wh_constraints.specs.Constraints.{AreRight};
 ghost use Rattle.wh_dml.specs.Placed.{ArePlaced, all_made};
+ghost use Rattle.wh_dml.specs.Sized.{AreSized};
 ghost use Rattle.wh_table.specs.Kept.{with_change};
 ghost use Rattle.wh_table.specs.Stored.{base_seen};
 
@@ -153,7 +153,7 @@ fn make_asked<L>(
     requires right { AreRight tables.old.scn tables.old.tables.items keys.old.now }
     requires there { asks.table < length tables.old.tables.items }
     requires placed { IfSome (slice_get tables.old.tables.items asks.table) (λ t. ArePlaced tables.old.scn t asks.changes.items) }
-    requires shape { HaveShape (table_at (base_seen tables.old.scn tables.old.tables.items) asks.table) asks.changes.items }
+    requires shape { HaveShapeOnceFit (table_at (base_seen tables.old.scn tables.old.tables.items) asks.table) asks.changes.items }
     ensures scn { tables.new.scn ≡ tables.old.scn }
     ensures same { keys.new.before ≡ keys.old.before }
     ensures right { IfOk result (λ r. StayRight tables.new.scn tables.new.tables.items keys.new.now r) }
@@ -197,7 +197,6 @@ pub(crate) fn run_statement<L>(
     statement: &Statement,
     reads: &mut Reads<L>,
 ) -> Result<Result<Made, Stop>, AllocError>
-    requires checked { IsTrue (is_checked statement.now) }
     requires whole { AreWhole tables.old.tables.items }
     requires sized { AreSized tables.old.tables.items }
     requires scn { 0 < tables.old.scn }

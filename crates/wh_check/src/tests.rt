@@ -1,9 +1,8 @@
-ghost use Rattle.std.specs.List.{All, list_all};
+ghost use Rattle.std.specs.List.{All};
 ghost use Rattle.std.specs.Prelude.{◌≡◌, ◌≤◌, [], ◌∷◌, IfOk, IsTrue, None, cond, false};
 ghost use Rattle.def_effect.specs.Block.{max_versions};
-ghost use Rattle.wh_dml.specs.Asked.{is_checked};
-ghost use Rattle.wh_check.specs.Effects.{is_sized_def};
 ghost use Rattle.wh_constraints.specs.Constraints.{AreRight};
+ghost use Rattle.wh_load.specs.Sized.{is_sized_def, kind_is_sized};
 
 use crate::{Checked, check_block};
 use std::alloc::{AllocError, Global};
@@ -12,7 +11,7 @@ use wh_base::reads::Reads;
 use wh_base::replies::{Refusal, Refused};
 use wh_base::seq::Seq;
 use wh_base::statements::{
-    ChangeStatement, DeleteRows, InsertRows, NewValue, SetColumn, Statement, UpdateRows,
+    ChangeStatement, DeleteRows, InsertRows, LoadRows, NewValue, SetColumn, Statement, UpdateRows,
 };
 use wh_base::tables::{ColumnDef, ForeignDef, Kind, TableDef};
 use wh_base::txt::Txt;
@@ -48,12 +47,23 @@ fn foreign(alloc: Global, is_child: bool) -> Result<Seq<ForeignDef>, AllocError>
     Ok(foreign)
 }
 
-// name (N NUMBER(1) NOT NULL, M NUMBER(3)), with a key in N and a foreign key in M if asked
+// NUMBER(3) or VARCHAR2(3)
+fn kind(is_text: bool) -> Kind
+    ensures { IsTrue (kind_is_sized result) }
+{
+    if is_text {
+        return Kind::Text(3);
+    }
+    Kind::Number(3)
+}
+
+// name (N NUMBER(1) NOT NULL, M NUMBER(3)), with a key in N and a foreign key in M if asked, or with a text in M
 fn definition(
     alloc: Global,
     name: &[u8],
     keyed: bool,
     is_child: bool,
+    is_text: bool,
 ) -> Result<TableDef, AllocError>
     ensures whole { IfOk result (λ d. d.part_key ≡ None) }
     ensures sized { IfOk result (λ d. IsTrue (is_sized_def d)) }
@@ -68,7 +78,7 @@ fn definition(
     })?;
     columns.push(ColumnDef {
         name: Txt::from_slice(alloc, b"M")?,
-        kind: Kind::Number(3),
+        kind: kind(is_text),
         not_null: false,
     })?;
     Ok(TableDef {
@@ -87,9 +97,10 @@ struct Stock {
     keys: Keys,
 }
 
-// The tables A and B, without keys, or both with a key in N and B with a foreign key in M to the key of A.
+// The tables A and B, with a number or a text in M, and without keys, or both with a key in N and B with a foreign key in M
+// to the key of A.
 #[tactic(auto, using(crate::proofs::Filled::filled))]
-fn two_tables(alloc: Global, keyed: bool) -> Result<Stock, AllocError>
+fn two_tables(alloc: Global, keyed: bool, is_text: bool) -> Result<Stock, AllocError>
     ensures scn { IfOk result (λ t. t.tables.scn ≡ 0) }
     ensures whole { IfOk result (λ t. All (λ s. s.def.part_key ≡ None) t.tables.tables.items) }
     ensures sized { IfOk result (λ t. All (λ s. IsTrue (is_sized_def s.def)) t.tables.tables.items) }
@@ -98,10 +109,10 @@ fn two_tables(alloc: Global, keyed: bool) -> Result<Stock, AllocError>
 {
     let mut tables = Tables::new(alloc)?;
     let mut keys = Keys::new(alloc);
-    let parent = definition(alloc, b"A", keyed, false)?;
+    let parent = definition(alloc, b"A", keyed, false, is_text)?;
     keys.push_table(alloc, &parent)?;
     tables.push_table(alloc, parent)?;
-    let child = definition(alloc, b"B", keyed, keyed)?;
+    let child = definition(alloc, b"B", keyed, keyed, is_text)?;
     keys.push_table(alloc, &child)?;
     tables.push_table(alloc, child)?;
     Ok(Stock { tables, keys })
@@ -137,9 +148,12 @@ fn row(alloc: Global, values: &[u8]) -> Result<Seq<Option<Literal>>, AllocError>
 }
 
 // INSERT INTO table (columns) VALUES (values), two values to a row
-fn insert(alloc: Global, table: &str, columns: &str, values: &str) -> Result<Statement, AllocError>
-    ensures { IfOk result (λ s. IsTrue (is_checked s)) }
-{
+fn insert(
+    alloc: Global,
+    table: &str,
+    columns: &str,
+    values: &str,
+) -> Result<Statement, AllocError> {
     let table = Txt::from_slice(alloc, table.as_bytes())?;
     let columns = listed(alloc, columns.as_bytes())?;
     let mut rows = Seq::new(alloc);
@@ -154,18 +168,14 @@ fn insert(alloc: Global, table: &str, columns: &str, values: &str) -> Result<Sta
 }
 
 // DELETE FROM table
-fn delete(alloc: Global, table: &str) -> Result<Statement, AllocError>
-    ensures { IfOk result (λ s. IsTrue (is_checked s)) }
-{
+fn delete(alloc: Global, table: &str) -> Result<Statement, AllocError> {
     let table = Txt::from_slice(alloc, table.as_bytes())?;
     let conditions = Seq::new(alloc);
     Ok(Statement::Change(ChangeStatement::Delete(DeleteRows { table, conditions })))
 }
 
 // UPDATE table SET N = N + 1
-fn shift(alloc: Global, table: &str) -> Result<Statement, AllocError>
-    ensures { IfOk result (λ s. IsTrue (is_checked s)) }
-{
+fn shift(alloc: Global, table: &str) -> Result<Statement, AllocError> {
     let table = Txt::from_slice(alloc, table.as_bytes())?;
     let mut sets = Seq::new(alloc);
     sets.push(SetColumn {
@@ -181,9 +191,7 @@ fn shift(alloc: Global, table: &str) -> Result<Statement, AllocError>
 }
 
 // An INSERT of a row into a table, or a DELETE of all rows of A.
-fn second(alloc: Global, table: &str) -> Result<Statement, AllocError>
-    ensures { IfOk result (λ s. IsTrue (is_checked s)) }
-{
+fn second(alloc: Global, table: &str) -> Result<Statement, AllocError> {
     if table.is_empty() {
         return delete(alloc, "A");
     }
@@ -219,9 +227,7 @@ fn block(
     columns: &str,
     values: &str,
     table: &str,
-) -> Result<Vec<Statement>, AllocError>
-    ensures { IfOk result (λ ss. IsTrue (list_all is_checked ss.items)) }
-{
+) -> Result<Vec<Statement>, AllocError> {
     let mut statements = Vec::new(alloc);
     statements.push(insert(alloc, "A", columns, values)?)?;
     statements.push(second(alloc, table)?)?;
@@ -234,10 +240,9 @@ fn answer(
     kept: u64,
     statements: &[Statement],
 ) -> Result<(&'static str, u64), AllocError>
-    requires checked { IsTrue (list_all is_checked statements.now) }
     requires kept { kept ≤ max_versions }
 {
-    let Stock { tables, mut keys } = two_tables(alloc, false)?;
+    let Stock { tables, mut keys } = two_tables(alloc, false, false)?;
     let mut reads = Reads::new(());
     let outcome = check_block(alloc, &tables, &mut keys, kept, statements, &mut reads)?;
     Ok(told(&outcome))
@@ -276,9 +281,7 @@ fn blocks(rt: HostRuntime) -> Result<(), Fail> {
 }
 
 // Values are inserted, `+` adds 1 to all keys, and nothing deletes all rows.
-fn statement(alloc: Global, table: &str, values: &str) -> Result<Statement, AllocError>
-    ensures { IfOk result (λ s. IsTrue (is_checked s)) }
-{
+fn statement(alloc: Global, table: &str, values: &str) -> Result<Statement, AllocError> {
     match values.len() {
         0 => delete(alloc, table),
         1 => shift(alloc, table),
@@ -291,9 +294,7 @@ fn three(
     first: (&str, &str),
     second: (&str, &str),
     third: (&str, &str),
-) -> Result<Vec<Statement>, AllocError>
-    ensures { IfOk result (λ ss. IsTrue (list_all is_checked ss.items)) }
-{
+) -> Result<Vec<Statement>, AllocError> {
     let mut statements = Vec::new(alloc);
     statements.push(statement(alloc, first.0, first.1)?)?;
     statements.push(statement(alloc, second.0, second.1)?)?;
@@ -306,11 +307,8 @@ fn keyed_answers(
     alloc: Global,
     statements: &[Statement],
     others: &[Statement],
-) -> Result<(&'static str, u64, &'static str), AllocError>
-    requires checked { IsTrue (list_all is_checked statements.now) }
-    requires others { IsTrue (list_all is_checked others.now) }
-{
-    let Stock { tables, mut keys } = two_tables(alloc, true)?;
+) -> Result<(&'static str, u64, &'static str), AllocError> {
+    let Stock { tables, mut keys } = two_tables(alloc, true, false)?;
     let mut reads = Reads::new(());
     match check_block(alloc, &tables, &mut keys, 0, statements, &mut reads)? {
         Ok(checked) => Ok(("made", checked.versions, "made")),
@@ -344,5 +342,73 @@ fn keys_are_asked(rt: HostRuntime) -> Result<(), Fail> {
     assert!(rt; comes_to(alloc, ("A", "1-2-"), ("A", "+"), ("A", "1-"), "made", 3)?);
     assert!(rt; comes_to(alloc, ("A", "1-"), ("A", "1-"), ("B", "11"), "MV-06", 2)?);
     assert!(rt; comes_to(alloc, ("A", "1-"), ("B", "11"), ("A", ""), "MV-08", 3)?);
+    Ok(())
+}
+
+// Fields with a bar between each two.
+fn fields(alloc: Global, text: &[u8]) -> Result<Seq<Txt>, AllocError> {
+    let mut fields = Seq::new(alloc);
+    for field in text.split(|byte| *byte == b'|') {
+        fields.push(Txt::from_slice(alloc, field)?)?;
+    }
+    Ok(fields)
+}
+
+// A LOAD into A of rows with a semicolon between each two.
+fn load(alloc: Global, text: &str) -> Result<Statement, AllocError> {
+    let table = Txt::from_slice(alloc, b"A")?;
+    let mut rows = Seq::new(alloc);
+    for line in text.as_bytes().split(|byte| *byte == b';') {
+        rows.push(fields(alloc, line)?)?;
+    }
+    Ok(Statement::Change(ChangeStatement::Load(LoadRows { table, rows })))
+}
+
+// Whether a refusal has this code and tells this column.
+fn is_of(refusal: &Refusal, wanted: &str, column: &[u8]) -> bool {
+    match refusal {
+        Refusal::ValueDoesNotFit(_, name) => wanted == "MV-04" && name.is(column),
+        Refusal::NullNotAllowed(_, name) => wanted == "MV-05" && name.is(column),
+        _ => false,
+    }
+}
+
+// Whether a LOAD into N NUMBER(1) NOT NULL and M VARCHAR2(3) goes through, or is refused with this code and column.
+fn loads(alloc: Global, text: &str, wanted: &str, column: &str) -> Result<bool, AllocError> {
+    let Stock { tables, mut keys } = two_tables(alloc, false, true)?;
+    let mut statements = Vec::new(alloc);
+    statements.push(load(alloc, text)?)?;
+    let mut reads = Reads::new(());
+    match check_block(
+        alloc,
+        &tables,
+        &mut keys,
+        0,
+        statements.as_slice(),
+        &mut reads,
+    )? {
+        Ok(checked) => Ok(wanted == "made" && checked.rows == 2),
+        Err(refused) => Ok(is_of(&refused.code, wanted, column.as_bytes())),
+    }
+}
+
+#[test]
+fn rows_are_loaded(rt: HostRuntime) -> Result<(), Fail> {
+    let alloc = rt.alloc();
+    for (text, wanted, column) in [
+        ("1|abc;-2|", "made", ""),
+        ("1|abc;2", "MV-04", "-"),
+        ("1|abc;b|", "MV-04", "N"),
+        ("1|abcd", "MV-04", "M"),
+        ("1000000000000000000000000000000000000001|a", "MV-04", "N"),
+        (
+            "|a;1000000000000000000000000000000000000001|a",
+            "MV-05",
+            "N",
+        ),
+        ("1000000000000000000000000000000000000001|a;1", "MV-04", "-"),
+    ] {
+        assert!(rt; loads(alloc, text, wanted, column)?, "{text}");
+    }
     Ok(())
 }

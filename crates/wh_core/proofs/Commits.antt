@@ -20,7 +20,8 @@ use Rattle.def_history.specs.History.{kept_versions}
 use Rattle.def_journal.specs.Committing.{Dues, after_block, changed_by, commit_result, committed, do_due, do_dues, is_due}
 use Rattle.def_journal.specs.Journal.{event_of, event_step, state_of}
 use Rattle.def_journal.specs.State.{refused, replied, with_catalog}
-use Rattle.wh_check.specs.Effects.{Makes, Stops, is_sized_def, kind_is_sized}
+use Rattle.wh_check.specs.Effects.{Makes, Stops}
+use Rattle.wh_load.specs.Sized.{is_sized_def, kind_is_sized}
 use Rattle.wh_core.proofs.Events.{After, IsAccepted, and_left, and_right, as_it_was, bounded, not_reading, oldest_reached, tells}
 use Rattle.wh_core.proofs.Known.{lookups, table_changes, version_laws}
 use Rattle.wh_core.proofs.Viewed.{IsOnDemand}

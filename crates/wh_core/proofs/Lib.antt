@@ -9,5 +9,4 @@ pub mod Begins
 pub mod Installs
 pub mod Commits
 pub mod Naming
-pub mod Scanning
 pub mod Closing

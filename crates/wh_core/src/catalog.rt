@@ -1,7 +1,7 @@
 ghost use Rattle.std.specs.Prelude.{◌≡◌, ◌≤◌, ◌+◌, ◌^◌, [], ◌∷◌, ◌++◌, Some, IfOk, OnOk, OnErr, IsTrue, true};
 ghost use Rattle.def_built.specs.Commands.{command_is_built, commands_are_built};
 ghost use Rattle.def_output.specs.Reads.{read_of};
-ghost use Rattle.def_journal.specs.Journal.{commands_of, event_of, reply_to};
+ghost use Rattle.def_journal.specs.Journal.{commands_of, event_of, reply_to, state_of};
 ghost use Rattle.wh_answer.specs.Answered.{most_reads};
 ghost use Rattle.wh_core.specs.Calls.{changes_catalog};
 ghost use Rattle.wh_core.specs.Put.{refusal_after};
@@ -74,6 +74,13 @@ impl<L> Core<L> {
         ensures { commands_are_built (commands_of self.now) ≡ true }
     {
         let _kept = self.kept;
+    }
+
+    /// The SCN that the commits of its trace have come to: that of its image. It is 0 for the empty catalog. Takes no memory.
+    pub fn scn(&self) -> u64
+        ensures { result ≡ (state_of self.now).catalog.scn }
+    {
+        self.image.scn()
     }
 
     /// The step of a statement on a table or a view (the Data Warehousing Guide's chapters on materialized views; CREATE TABLE is the SQL

@@ -1,16 +1,11 @@
-use Rattle.std.proofs.Common.{List, Some, ap, arith, drop, refl, subst, ◌+◌, ◌≡◌, ◌≤◌, ◌∙◌}
-use Rattle.std.specs.List.{list_all}
-use Rattle.std.specs.Prelude.{IsTrue}
+use Rattle.std.proofs.Common.{Some, ap, arith, refl, subst, ◌+◌, ◌≡◌, ◌≤◌, ◌∙◌}
 use Rattle.def_effect.specs.Block.{max_rows}
-use Rattle.wh_base.specs.declared.statements.Statement.{Statement}
-use Rattle.wh_dml.specs.Asked.{is_checked}
 use Rattle.wh_check.specs.Making.{Ends, StayRight, read_in, statement_step}
-use Rattle.wh_check.proofs.Running.{all_done, begins, cut_at, goes_on, rest_all, right_begins, sized_now, stops, whole_now}
+use Rattle.wh_check.proofs.Running.{all_done, begins, cut_at, goes_on, right_begins, sized_now, stops, whole_now}
 use Rattle.wh_check.proofs.block.run_block.Goals as goal
 
 pub loop-at-init : goal.loop-at-init
 loop-at-init g c = record {
-  checked = c.requires.checked;
   way = begins c.args.tables.now.scn c.args.kept c.args.tables.now.tables.items c.args.statements.now c.raise.new.self.scn c.raise.new.self.tables.items c.args.tables.now.kept.settled
       (c.raise.ensures.scn ∙ ap (λ n. n + 1) c.in_ok-after.ensures.scn) (c.raise.ensures.tables ∙ c.in_ok-after.ensures.tables) c.requires.kept;
   raised = omega arith;
@@ -52,7 +47,6 @@ loop-at-preserved g c =
     let had = l.invariant.raised in
     let few : c.in-Ok.made.read ≤ max_rows = omega (arith, more, most) in
     record {
-      checked = rest_all is_checked st (drop (l.at + 1) c.args.statements.now) (subst (λ (rest : List Statement). IsTrue (list_all is_checked rest)) cut l.invariant.checked);
       way = goes_on c.args.tables.now.scn c.args.kept c.args.tables.now.tables.items c.args.statements.now l.at l.after.scn l.after.tables.items l.rows l.fresh l.read l.invariant.way st cut
           c.run_statement.new.tables.tables.items c.run_statement.new.tables.scn c.in-Ok.made.rows c.in-Ok.made.fresh c.in-Ok.made.read c.in_ok-made.ensures.scn goes few;
       raised = omega (arith, more, had);

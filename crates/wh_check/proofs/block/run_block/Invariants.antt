@@ -1,13 +1,10 @@
-use Rattle.std.proofs.Common.{IsTrue, drop, ◌+◌, ◌≡◌}
-use Rattle.std.specs.List.{list_all}
-use Rattle.wh_dml.specs.Asked.{is_checked}
+use Rattle.std.proofs.Common.{◌+◌, ◌≡◌}
 use Rattle.wh_check.proofs.Running.{IsUnderWay}
 use Rattle.wh_constraints.specs.Constraints.{AreRight}
 use Rattle.wh_check.proofs.block.run_block.Given as goal
 
 abbrev pub invariant-loop-at : goal.invariant-loop-at
 invariant-loop-at g l = record {
-  checked : IsTrue (list_all is_checked (drop l.at l.statements));
   way : IsUnderWay l.tables.scn l.kept l.tables.tables.items l.statements l.at l.after.scn l.after.tables.items l.rows l.fresh l.read;
   raised : l.reads ≡ l.fn.reads + l.read;
   same : l.keys.before ≡ l.fn.keys.before;

@@ -1,7 +1,7 @@
 use Rattle.std.proofs.Common.{◌≡◌, drop, IsTrue}
 use Rattle.std.specs.List.{list_all}
-use Rattle.wh_check.specs.Effects.{kind_is_sized}
 use Rattle.wh_check.specs.Rows.{sizes_refusal}
+use Rattle.wh_load.specs.Sized.{kind_is_sized}
 use Rattle.wh_check.proofs.rows.sizes_refusal.Given as goal
 
 abbrev pub invariant-loop-at : goal.invariant-loop-at

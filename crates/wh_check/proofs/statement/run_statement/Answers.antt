@@ -8,7 +8,7 @@ pub make_asked-requires-clause-shape : goal.make_asked-requires-clause-shape
 make_asked-requires-clause-shape g c =
     let before = c.args.tables.now in
     let asks = subst (IsAsked before.scn before.tables.items c.args.statement.now) c.in-Ok.is c.in_ok-asks.ensures.asked in
-    have_shape before.scn before.tables.items c.args.statement.now c.in-Ok.asks.table c.in-Ok.asks.changes.items c.in-Ok.asks.scanned c.requires.checked before.kept.stored c.requires.sized asks
+    have_shape before.scn before.tables.items c.args.statement.now c.in-Ok.asks.table c.in-Ok.asks.changes.items c.in-Ok.asks.scanned before.kept.stored c.requires.sized asks
 
 pub returns-in_ok-ends-in-Ok-clause-ends : goal.returns-in_ok-ends-in-Ok-clause-ends
 returns-in_ok-ends-in-Ok-clause-ends g c =

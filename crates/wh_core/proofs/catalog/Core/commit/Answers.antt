@@ -1,21 +1,13 @@
-use Rattle.std.proofs.Common.{◌≡◌, ◌+◌, ◌∙◌, ap, refl, sym, subst, arith, IsTrue}
-use Rattle.std.specs.List.{list_all}
+use Rattle.std.proofs.Common.{◌≡◌, ◌+◌, ◌∙◌, ap, refl, sym, subst, arith}
 use Rattle.std.specs.Prelude.{Ok}
 use Rattle.wh_base.specs.declared.replies.Reply.TheVariants as reply
 use Rattle.wh_base.specs.declared.statements.Command.TheVariants as commands
 use Rattle.def_journal.specs.Journal.{event_of}
-use Rattle.wh_dml.specs.Asked.{is_checked}
 use Rattle.wh_check.specs.Effects.{IsOutcome, KeysLeft, Stops, read_by}
 use Rattle.wh_constraints.specs.Constraints.{AreRight}
 use Rattle.wh_core.proofs.Closing.{accepts, answers, closes}
 use Rattle.wh_core.proofs.Commits.{commits, stops, tables_sized, versions_few}
-use Rattle.wh_core.proofs.Scanning.{built_checked}
 use Rattle.wh_core.proofs.catalog.Core.commit.Goals as goal
-
-pub check_block-requires-clause-checked : goal.check_block-requires-clause-checked
-check_block-requires-clause-checked g c =
-    let accepted = accepts c.args.id _ (commands.Block c.args.block.now) c.requires.command c.requires.built tt in
-    subst (λ ss. IsTrue (list_all is_checked ss)) (sym c.as_slice.ensures.items) (built_checked c.args.block.now.statements accepted.built)
 
 pub check_block-requires-clause-sized : goal.check_block-requires-clause-sized
 check_block-requires-clause-sized g c = tables_sized _ _ _ _ _ _ _ c.self.invariant.core c.tables_have_sizes.ensures
