@@ -9,6 +9,7 @@ use Rattle.def_transcript.specs.Transcript.{transcript}
 use Rattle.wh_order.specs.Laws.{Laws, session_told, told_text}
 use Rattle.wh_order.proofs.Journals.{each_own, next_part, own_parts}
 use Rattle.wh_order.proofs.Ordered.{legal}
+use Rattle.wh_order.proofs.Summed.{count_by_sections, sum_by_sections}
 use Rattle.wh_order.proofs.Told.{by_sections, told_in_of, told_of}
 
 by_lists : (script : Script) (journal : List Entry) (told : List (List Told)) → is_legal script journal ≡ true → told ≡ map (session_told script journal) script.sections → transcript script journal ≡ flat_map told_text told ++ lines_text (journal_line journal ∷ [])
@@ -25,4 +26,6 @@ laws_hold = record {
   told_in_of = told_in_of;
   transcript_by_sessions = λ script journal legal. by_sections script journal (each_own script journal legal);
   transcript_by_lists = by_lists;
+  sum_by_sections = sum_by_sections;
+  count_by_sections = count_by_sections;
 }

@@ -3,4 +3,5 @@ pub mod Lawful
 pub mod Listed
 pub mod Ordered
 pub mod Steps
+pub mod Summed
 pub mod Told

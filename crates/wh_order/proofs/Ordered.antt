@@ -19,7 +19,7 @@ use Rattle.wh_order.proofs.Journals.{each_names, entries_same}
 -- ---- numbers that differ
 
 -- no number stands twice
-abbrev AreApart : List ℕ → Type 0
+abbrev pub AreApart : List ℕ → Type 0
 AreApart [] = Unit {0}
 AreApart (n ∷ ns) = (has_number ns n ≡ false) × AreApart ns
 
@@ -45,7 +45,7 @@ not_there : (n : ℕ) (ns : List ℕ) → AllByRecursion (λ m. (m == n) ≡ fal
 not_there n [] h = refl
 not_there n (m ∷ ns) h = rw h.0 (not_there n ns h.1)
 
-apart_after : (seen ns : List ℕ) → repeated_after same_number seen ns ≡ None → AreApart ns
+pub apart_after : (seen ns : List ℕ) → repeated_after same_number seen ns ≡ None → AreApart ns
 apart_after seen [] h = tt
 apart_after seen (n ∷ ns) h = by (list_any (same_number n) seen) h (λ rest. apart_after (n ∷ seen) ns rest)
   where

@@ -69,7 +69,7 @@ entries_of : (script : Script) (journal : List Entry) → map (λ e. e.entry) (t
 entries_of script [] = refl
 entries_of script (e ∷ es) = ap (λ ys. e ∷ ys) (entries_of script es)
 
-journal_answered : (script : Script) (journal : List Entry) → Answer journal (replies_of (trace_of script journal))
+pub journal_answered : (script : Script) (journal : List Entry) → Answer journal (replies_of (trace_of script journal))
 journal_answered script journal = subst (λ es. Answer es (replies_of (trace_of script journal))) (entries_of script journal) (replies_answer empty_state (trace_of script journal))
 
 -- those of a session
@@ -105,7 +105,7 @@ answer_apart (e ∷ es) fs ts h =
     (answer_of e h.0 ++ rest.0, rest.1, h.2 ∙ ap (λ ys. answer_of e h.0 ++ ys) rest.2 ∙ sym (append_assoc (answer_of e h.0) rest.0 rest.1), (h.0, rest.0, refl, rest.3), rest.4)
 
 -- what holds of the names of all entries holds of those of the replies
-answers_hold : (P : Id → Type 0) (es : List Entry) (ts : List Told) → Answer es ts → AllByRecursion (λ e. P (id_of e)) es → AllByRecursion (λ t. P t.id) ts
+pub answers_hold : (P : Id → Type 0) (es : List Entry) (ts : List Told) → Answer es ts → AllByRecursion (λ e. P (id_of e)) es → AllByRecursion (λ t. P t.id) ts
 answers_hold P [] ts h k = subst (AllByRecursion (λ t. P t.id)) (sym h) tt
 answers_hold P (e ∷ es) ts h k = subst (AllByRecursion (λ t. P t.id)) (sym h.2) (by h.0 (answers_hold P es h.1 h.3 k.1))
   where

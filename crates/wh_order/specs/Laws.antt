@@ -1,6 +1,6 @@
 -- What holds of the legal journals of a script, of its own order, and of the replies under them.
 use Rattle.std.specs.List.{All}
-use Rattle.std.specs.Prelude.{List, None, Option, Some, [], cond, filter, find, flat_map, length, map, slice_get, take, true, ℕ, ◌++◌, ◌-◌, ◌==◌, ◌∷◌, ◌≡◌, ◌≤◌}
+use Rattle.std.specs.Prelude.{Bool, List, None, Option, Some, [], cond, count_by, filter, find, flat_map, length, map, slice_get, sum_by, take, true, ℕ, ◌++◌, ◌-◌, ◌==◌, ◌∷◌, ◌≡◌, ◌≤◌}
 use Rattle.wh_base.specs.Lists.{repeated}
 use Rattle.wh_base.specs.Parts.{parts_of, section_entries}
 use Rattle.wh_base.specs.declared.statements.Command.{Command}
@@ -64,3 +64,9 @@ pub record Laws : Type 0 where
   -- the same where the replies are held section by section
   pub transcript_by_lists : (script : Script) (journal : List Entry) (told : List (List Told)) → is_legal script journal ≡ true → told ≡ map (session_told script journal) script.sections
       → transcript script journal ≡ flat_map told_text told ++ lines_text (journal_line journal ∷ [])
+  -- each reply is one of exactly one section: where each section has a number of its own, a sum over all replies is that of the
+  -- sums over each section's, and so it is with how many pass a test
+  pub sum_by_sections : (f : Told → ℕ) (script : Script) (journal : List Entry) → is_legal script journal ≡ true → number_twice (session_numbers script) ≡ None
+      → sum_by f (replies_of (trace_of script journal)) ≡ sum_by (λ s. sum_by f (session_told script journal s)) script.sections
+  pub count_by_sections : (p : Told → Bool) (script : Script) (journal : List Entry) → is_legal script journal ≡ true → number_twice (session_numbers script) ≡ None
+      → count_by p (replies_of (trace_of script journal)) ≡ sum_by (λ s. count_by p (session_told script journal s)) script.sections
