@@ -7,6 +7,7 @@ use Rattle.std.specs.Prelude.{IsTrue}
 use Rattle.wh_base.specs.Lists.{count_from, option_case}
 use Rattle.wh_base.specs.Parts.{parts_of}
 use Rattle.wh_base.specs.declared.replies.Reply.{Reply}
+use Rattle.wh_base.specs.declared.replies.Reply.TheVariants as reply
 use Rattle.wh_base.specs.declared.statements.Command.{Command}
 use Rattle.wh_base.specs.declared.statements.Command.TheVariants as commands
 use Rattle.wh_base.specs.declared.statements.Entry.{Entry}
@@ -17,13 +18,16 @@ use Rattle.wh_base.specs.declared.statements.Statement.TheVariants as about
 use Rattle.def_built.specs.Commands.{command_is_built}
 use Rattle.def_journal.specs.Journal.{event_of, given_by, reply_to}
 use Rattle.def_output.specs.Reads.{read_of, reads_of}
+use Rattle.def_output.specs.Generator.{is_refused, is_rewritten}
 use Rattle.def_transcript.specs.Texts.{lines_text, reply_lines}
 use Rattle.wh_core.specs.Calls.{install_of}
 use Rattle.wh_session.proofs.Beginning.{still_pending}
 use Rattle.wh_session.specs.Held.{BegunIn, Holds, entries_of, left_of, run_of}
 use Rattle.wh_session.specs.Parts.{IsFinished, IsPending, IsStarted, IsTold, IsWaiting}
-use Rattle.wh_session.specs.Run.{CanRun, Continues, Takes, told_text}
+use Rattle.wh_session.specs.Run.{CanRun, Continues, Takes}
+use Rattle.wh_session.specs.Tally.{Telling, both, refuses, rewrites, tally_of, tally_of_reply, told_after, told_text, weight}
 use Rattle.wh_session.specs.declared.parts.Pending.{Pending}
+use Rattle.wh_session.specs.declared.tally.Tally.{Tally}
 use Rattle.wh_trace.specs.Laws.{SessionLaws}
 use Rattle.wh_trace.specs.Reached.{is_of}
 use Rattle.wh_view_law.specs.Read.{IsRead}
@@ -109,10 +113,10 @@ module _ (section : Section) (seen : List Event) (session taken : ℕ) (rest : L
       }
 
   -- a refresh of it that has begun
-  is_begun : (trace after seen2 : List Event) (pending : Option Pending) (text text2 : List ℕ) (read read2 : ℕ) → seen2 ≡ after
-      → IsStarted trace after (record { session = session; command = taken + 1 }) k pending text text2 read read2 → BegunIn section seen2 pending
-  is_begun trace after seen2 None text text2 read read2 same started = tt
-  is_begun trace after seen2 (Some p) text text2 read read2 same started =
+  is_begun : (trace after seen2 : List Event) (pending : Option Pending) (kept kept2 : Telling) (read read2 : ℕ) → seen2 ≡ after
+      → IsStarted trace after (record { session = session; command = taken + 1 }) k pending kept kept2 read read2 → BegunIn section seen2 pending
+  is_begun trace after seen2 None kept kept2 read read2 same started = tt
+  is_begun trace after seen2 (Some p) kept kept2 read read2 same started =
       record {
         own = ap (λ i. i.session) started.id_is ∙ h.own;
         names = ap (λ i. slice_get section.commands (i.command - 1)) started.id_is ∙ names ∙ ap Some (sym started.command_is);
@@ -121,10 +125,10 @@ module _ (section : Section) (seen : List Event) (session taken : ℕ) (rest : L
             (subst (λ c. IsPending after (record { session = session; command = taken + 1 }) c p.begun p.computed) (sym started.command_is) started.begun.pending));
       }
 
-  pub held_started : (trace after seen2 : List Event) (pending : Option Pending) (text text2 : List ℕ) (read read2 len2 : ℕ) → seen2 ≡ after → len2 + 1 ≡ len
-      → IsStarted trace after (record { session = session; command = taken + 1 }) k pending text text2 read read2 → Holds section seen2 session (taken + 1) pending more len2
-  held_started trace after seen2 pending text text2 read read2 len2 same fewer started =
-      held_first seen2 pending len2 fewer (is_begun trace after seen2 pending text text2 read read2 same started)
+  pub held_started : (trace after seen2 : List Event) (pending : Option Pending) (kept kept2 : Telling) (read read2 len2 : ℕ) → seen2 ≡ after → len2 + 1 ≡ len
+      → IsStarted trace after (record { session = session; command = taken + 1 }) k pending kept kept2 read read2 → Holds section seen2 session (taken + 1) pending more len2
+  held_started trace after seen2 pending kept kept2 read read2 len2 same fewer started =
+      held_first seen2 pending len2 fewer (is_begun trace after seen2 pending kept kept2 read read2 same started)
 
 -- once its refresh is installed
 pub held_second : (section : Section) (seen after : List Event) (session taken : ℕ) (p : Pending) (rest : List Command) (len : ℕ) → Holds section seen session taken (Some p) rest len
@@ -164,13 +168,45 @@ answered_parts trace id (commands.Other s) r is = refl
 told_one : (id : Id) (r : Reply) → lines_text (reply_lines id r) ≡ told_text (record { id = id; reply = r } ∷ [])
 told_one id r = ap lines_text (sym (append-nil (reply_lines id r)))
 
-told_reply : (e : Event) (o : Option Reply) (r : Reply) (text text2 : List ℕ) → o ≡ Some r → text2 ≡ text ++ lines_text (reply_lines (record { session = e.entry.session; command = e.entry.command }) r)
-    → text2 ≡ text ++ told_text (given_by e o)
-told_reply e o r text text2 reply is =
-    is ∙ ap (λ t. text ++ t) (told_one (record { session = e.entry.session; command = e.entry.command }) r) ∙ ap (λ p. text ++ told_text (given_by e p)) (sym reply)
+refused_one : (id : Id) (r : Reply) → refuses r ≡ is_refused (record { id = id; reply = r })
+refused_one id (reply.Refuse r) = refl
+refused_one id r = refl
 
-told_none : (e : Event) (o : Option Reply) (text : List ℕ) → o ≡ None → text ≡ text ++ told_text (given_by e o)
-told_none e o text reply = sym (append-nil text) ∙ ap (λ p. text ++ told_text (given_by e p)) (sym reply)
+rewritten_one : (id : Id) (r : Reply) → rewrites r ≡ is_rewritten (record { id = id; reply = r })
+rewritten_one id (reply.Answer r) = refl
+rewritten_one id r = refl
+
+none_before : (n : ℕ) → n ≡ 0 + n
+none_before n = omega arith
+
+tally_one : (id : Id) (r : Reply) → tally_of_reply r ≡ tally_of (record { id = id; reply = r } ∷ [])
+tally_one id r =
+    let refused : weight (refuses r) ≡ 0 + weight (is_refused (record { id = id; reply = r })) = none_before (weight (refuses r)) ∙ ap (λ b. 0 + weight b) (refused_one id r) in
+    let rewritten : weight (rewrites r) ≡ 0 + weight (is_rewritten (record { id = id; reply = r })) = none_before (weight (rewrites r)) ∙ ap (λ b. 0 + weight b) (rewritten_one id r) in
+    λ i. record { refused = refused i; rewritten = rewritten i; read = none_before (read_of r) i }
+
+none_behind : (n : ℕ) → n ≡ n + 0
+none_behind n = omega arith
+
+tally_none : (t : Tally) → t ≡ both t (tally_of [])
+tally_none t = λ i. record { refused = none_behind t.refused i; rewritten = none_behind t.rewritten i; read = none_behind t.read i }
+
+abbrev id_of : Event → Id
+id_of e = record { session = e.entry.session; command = e.entry.command }
+
+text_reply : (e : Event) (o : Option Reply) (r : Reply) (kept kept2 : Telling) → o ≡ Some r → kept2 ≡ told_after kept (id_of e) r → kept2.text ≡ kept.text ++ told_text (given_by e o)
+text_reply e o r kept kept2 reply is =
+    ap (λ t. t.text) is ∙ ap (λ t. kept.text ++ t) (told_one (id_of e) r) ∙ ap (λ p. kept.text ++ told_text (given_by e p)) (sym reply)
+
+tally_reply : (e : Event) (o : Option Reply) (r : Reply) (kept kept2 : Telling) → o ≡ Some r → kept2 ≡ told_after kept (id_of e) r → kept2.tally ≡ both kept.tally (tally_of (given_by e o))
+tally_reply e o r kept kept2 reply is =
+    ap (λ t. t.tally) is ∙ ap (both kept.tally) (tally_one (id_of e) r) ∙ ap (λ p. both kept.tally (tally_of (given_by e p))) (sym reply)
+
+text_none : (e : Event) (o : Option Reply) (kept kept2 : Telling) → o ≡ None → kept2 ≡ kept → kept2.text ≡ kept.text ++ told_text (given_by e o)
+text_none e o kept kept2 reply is = ap (λ t. t.text) is ∙ sym (append-nil kept.text) ∙ ap (λ p. kept.text ++ told_text (given_by e p)) (sym reply)
+
+tally_unchanged : (e : Event) (o : Option Reply) (kept kept2 : Telling) → o ≡ None → kept2 ≡ kept → kept2.tally ≡ both kept.tally (tally_of (given_by e o))
+tally_unchanged e o kept kept2 reply is = ap (λ t. t.tally) is ∙ tally_none kept.tally ∙ ap (λ p. both kept.tally (tally_of (given_by e p))) (sym reply)
 
 reads_reply : (e : Event) (o : Option Reply) (r : Reply) → o ≡ Some r → reads_of (given_by e o) ≡ read_of r
 reads_reply e o r reply = ap (λ p. reads_of (given_by e p)) reply ∙ plus (read_of r)
@@ -186,18 +222,18 @@ reads_none e o reply = ap (λ p. reads_of (given_by e p)) reply
 abbrev part_two : Id → Entry
 part_two i = record { session = i.session; command = i.command; part = 2 }
 
-module _ (section : Section) (seen : List Event) (session taken : ℕ) (rest : List Command) (len : ℕ) (text : List ℕ) where
+module _ (section : Section) (seen : List Event) (session taken : ℕ) (rest : List Command) (len : ℕ) (kept : Telling) where
   -- the refresh that has begun is still there
-  pub goes_on : SessionLaws → (p : Pending) (trace : List Event) → Holds section seen session taken (Some p) rest len → Continues (run_of section seen session taken (Some p) rest text) trace
+  pub goes_on : SessionLaws → (p : Pending) (trace : List Event) → Holds section seen session taken (Some p) rest len → Continues (run_of section seen session taken (Some p) rest kept) trace
       → IsPending trace p.id p.command p.begun p.computed
   goes_on laws p trace h on =
       still_pending laws seen on.more trace p.id p.command p.begun p.computed on.is (subst (λ n. list_any (is_of n) on.more ≡ false) (sym h.begun.own) on.apart) h.begun.is
 
   -- an install
-  pub takes_second : (p : Pending) (trace after seen2 : List Event) (text2 : List ℕ) (read : ℕ) → Holds section seen session taken (Some p) rest len
-      → IsFinished trace p text text2 → after ≡ trace ++ install_of p.id p.command ∷ [] → seen2 ≡ after
-      → Takes (run_of section seen session taken (Some p) rest text) (run_of section seen2 session taken None rest text2) trace after read read
-  takes_second p trace after seen2 text2 read h finished is same =
+  pub takes_second : (p : Pending) (trace after seen2 : List Event) (kept2 : Telling) (read : ℕ) → Holds section seen session taken (Some p) rest len
+      → IsFinished trace p kept kept2 → after ≡ trace ++ install_of p.id p.command ∷ [] → seen2 ≡ after
+      → Takes (run_of section seen session taken (Some p) rest kept) (run_of section seen2 session taken None rest kept2) trace after read read
+  takes_second p trace after seen2 kept2 read h finished is same =
       let e : Event = install_of p.id p.command in
       let all : reads_of (given_by e (reply_to trace e)) ≡ option_case p.computed 0 (λ x. x.read) = reads_reply e (reply_to trace e) finished.answer finished.reply ∙ finished.read in
       record {
@@ -209,16 +245,17 @@ module _ (section : Section) (seen : List Event) (session taken : ℕ) (rest : L
         event_is = is;
         section_is = refl;
         seen_is = same;
-        text_is = told_reply e (reply_to trace e) finished.answer text text2 finished.reply finished.told;
+        text_is = text_reply e (reply_to trace e) finished.answer kept kept2 finished.reply finished.told;
+        tally_is = tally_reply e (reply_to trace e) finished.answer kept kept2 finished.reply finished.told;
         read_is = omega (arith, all);
         ended = λ none. refl;
       }
 
   module _ (h : Holds section seen session taken None rest len) (k : Command) (more : List Command) (is : rest ≡ k ∷ more) (trace after seen2 : List Event)
-      (event : after ≡ trace ++ event_of (record { session = session; command = taken + 1 }) k ∷ []) (same : seen2 ≡ after) (text2 : List ℕ) (read read2 : ℕ) where
+      (event : after ≡ trace ++ event_of (record { session = session; command = taken + 1 }) k ∷ []) (same : seen2 ≡ after) (kept2 : Telling) (read read2 : ℕ) where
     -- a command with one part
-    takes_answer : IsTold trace (record { session = session; command = taken + 1 }) k text text2 read read2
-        → Takes (run_of section seen session taken None rest text) (run_of section seen2 session (taken + 1) None more text2) trace after read read2
+    takes_answer : IsTold trace (record { session = session; command = taken + 1 }) k kept kept2 read read2
+        → Takes (run_of section seen session taken None rest kept) (run_of section seen2 session (taken + 1) None more kept2) trace after read read2
     takes_answer told =
         let e : Event = event_of (record { session = session; command = taken + 1 }) k in
         let all : reads_of (given_by e (reply_to trace e)) ≡ read_of told.answer = reads_reply e (reply_to trace e) told.answer told.replied.reply in
@@ -231,14 +268,15 @@ module _ (section : Section) (seen : List Event) (session taken : ℕ) (rest : L
           event_is = event;
           section_is = refl;
           seen_is = same;
-          text_is = told_reply e (reply_to trace e) told.answer text text2 told.replied.reply told.told;
+          text_is = text_reply e (reply_to trace e) told.answer kept kept2 told.replied.reply told.told;
+          tally_is = tally_reply e (reply_to trace e) told.answer kept kept2 told.replied.reply told.told;
           read_is = omega (arith, all, told.replied.read_is);
           ended = λ none. refl;
         }
 
     -- the begin of a refresh
-    takes_begin : (p : Pending) → IsWaiting trace after (record { session = session; command = taken + 1 }) k p text text2 read read2
-        → Takes (run_of section seen session taken None rest text) (run_of section seen2 session (taken + 1) (Some p) more text2) trace after read read2
+    takes_begin : (p : Pending) → IsWaiting trace after (record { session = session; command = taken + 1 }) k p kept kept2 read read2
+        → Takes (run_of section seen session taken None rest kept) (run_of section seen2 session (taken + 1) (Some p) more kept2) trace after read read2
     takes_begin p waits =
         let e : Event = event_of (record { session = session; command = taken + 1 }) k in
         let none_read : reads_of (given_by e (reply_to trace e)) ≡ 0 = reads_none e (reply_to trace e) waits.begun.reply in
@@ -252,12 +290,13 @@ module _ (section : Section) (seen : List Event) (session taken : ℕ) (rest : L
           event_is = event;
           section_is = refl;
           seen_is = same;
-          text_is = waits.untold ∙ told_none e (reply_to trace e) text waits.begun.reply;
+          text_is = text_none e (reply_to trace e) kept kept2 waits.begun.reply waits.untold;
+          tally_is = tally_unchanged e (reply_to trace e) kept kept2 waits.begun.reply waits.untold;
           read_is = omega (arith, none_read, waits.begun.read_is);
           ended = λ none. absurd (cc);
         }
 
-    pub takes_first : (pending : Option Pending) → IsStarted trace after (record { session = session; command = taken + 1 }) k pending text text2 read read2
-        → Takes (run_of section seen session taken None rest text) (run_of section seen2 session (taken + 1) pending more text2) trace after read read2
+    pub takes_first : (pending : Option Pending) → IsStarted trace after (record { session = session; command = taken + 1 }) k pending kept kept2 read read2
+        → Takes (run_of section seen session taken None rest kept) (run_of section seen2 session (taken + 1) pending more kept2) trace after read read2
     takes_first None started = takes_answer started
     takes_first (Some p) started = takes_begin p started

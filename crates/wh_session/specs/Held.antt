@@ -9,6 +9,7 @@ use Rattle.wh_base.specs.declared.statements.Event.{Event}
 use Rattle.wh_base.specs.declared.statements.Section.{Section}
 use Rattle.wh_session.specs.Parts.{IsPending}
 use Rattle.wh_session.specs.Run.{CanRun, Run}
+use Rattle.wh_session.specs.Tally.{Telling}
 use Rattle.wh_session.specs.declared.parts.Pending.{Pending}
 
 -- the entries of these commands, which stand behind so many of the session's
@@ -26,9 +27,9 @@ ahead_of None = 0
 ahead_of (Some p) = option_case p.computed 0 (λ x. x.read)
 
 -- how far a session has come that has begun so many of its commands
-abbrev pub run_of : Section → List Event → ℕ → ℕ → Option Pending → List Command → List ℕ → Run
-run_of section seen session taken pending rest text =
-    record { section = section; left = left_of session taken pending rest; seen = seen; text = text; ahead = ahead_of pending }
+abbrev pub run_of : Section → List Event → ℕ → ℕ → Option Pending → List Command → Telling → Run
+run_of section seen session taken pending rest telling =
+    record { section = section; left = left_of session taken pending rest; seen = seen; text = telling.text; tally = telling.tally; ahead = ahead_of pending }
 
 -- The refresh is a command of the section, and has begun in the trace.
 pub record IsBegunIn (section : Section) (trace : List Event) (p : Pending) : Type 0 where

@@ -1,6 +1,6 @@
 -- What the parts of a command give.
 use Rattle.std.specs.List.{find}
-use Rattle.std.specs.Prelude.{◌≡◌, ◌+◌, ◌++◌, IsSome, IsTrue, List, None, Ok, Option, Some, option_and_then, option_map, ℕ}
+use Rattle.std.specs.Prelude.{◌≡◌, ◌+◌, IsSome, IsTrue, List, None, Ok, Option, Some, option_and_then, option_map, ℕ}
 use Rattle.std.specs.Option.{IsSomeAnd}
 use Rattle.wh_base.specs.Lists.{option_case}
 use Rattle.wh_base.specs.declared.replies.Reply.{Reply}
@@ -16,9 +16,9 @@ use Rattle.def_history.specs.Catalog.{Catalog, View, view_numbered}
 use Rattle.def_journal.specs.Journal.{event_of, reply_to}
 use Rattle.def_journal.specs.Refreshing.{Computed, computed}
 use Rattle.def_output.specs.Reads.{read_of}
-use Rattle.def_transcript.specs.Texts.{lines_text, reply_lines}
 use Rattle.wh_core.specs.Calls.{HasBegun, install_of}
 use Rattle.wh_core.specs.declared.refreshing.Begun.{Begun}
+use Rattle.wh_session.specs.Tally.{Telling, told_after}
 use Rattle.wh_session.specs.declared.parts.Part.{Part}
 use Rattle.wh_session.specs.declared.parts.Pending.{Pending}
 use Rattle.wh_session.specs.declared.parts.Part.TheVariants as part
@@ -47,35 +47,31 @@ abbrev pub IsFirst : List Event → List Event → Id → Command → Part → �
 IsFirst trace after id command (part.Replied r) read read_after = IsReplied trace (event_of id command) r read read_after
 IsFirst trace after id command (part.Begun kept done) read read_after = IsBegun trace after id command kept done read read_after
 
--- ---- the parts with the text of their replies
-
--- the text of the reply stands behind that of those before
-abbrev pub told_after : List ℕ → Id → Reply → List ℕ
-told_after text id r = text ++ lines_text (reply_lines id r)
+-- ---- the parts with what is kept of their replies
 
 -- The command is answered, and its reply is told.
-pub record IsTold (trace : List Event) (id : Id) (command : Command) (text text_after : List ℕ) (read read_after : ℕ) : Type 0 where
+pub record IsTold (trace : List Event) (id : Id) (command : Command) (kept kept_after : Telling) (read read_after : ℕ) : Type 0 where
   pub answer : Reply
   pub replied : IsReplied trace (event_of id command) answer read read_after
-  pub told : text_after ≡ told_after text id answer
+  pub told : kept_after ≡ told_after kept id answer
 
 -- It is a refresh that has begun, and nothing is told.
-pub record IsWaiting (trace trace_after : List Event) (id : Id) (command : Command) (p : Pending) (text text_after : List ℕ) (read read_after : ℕ) : Type 0 where
+pub record IsWaiting (trace trace_after : List Event) (id : Id) (command : Command) (p : Pending) (kept kept_after : Telling) (read read_after : ℕ) : Type 0 where
   pub id_is : p.id ≡ id
   pub command_is : p.command ≡ command
   pub begun : IsBegun trace trace_after id command p.begun p.computed read read_after
-  pub untold : text_after ≡ text
+  pub untold : kept_after ≡ kept
 
-abbrev pub IsStarted : List Event → List Event → Id → Command → Option Pending → List ℕ → List ℕ → ℕ → ℕ → Type 0
-IsStarted trace after id command None text text_after read read_after = IsTold trace id command text text_after read read_after
-IsStarted trace after id command (Some p) text text_after read read_after = IsWaiting trace after id command p text text_after read read_after
+abbrev pub IsStarted : List Event → List Event → Id → Command → Option Pending → Telling → Telling → ℕ → ℕ → Type 0
+IsStarted trace after id command None kept kept_after read read_after = IsTold trace id command kept kept_after read read_after
+IsStarted trace after id command (Some p) kept kept_after read read_after = IsWaiting trace after id command p kept kept_after read read_after
 
 -- A refresh is installed, and its reply is told. It says that so many rows were read as were computed from.
-pub record IsFinished (trace : List Event) (p : Pending) (text text_after : List ℕ) : Type 0 where
+pub record IsFinished (trace : List Event) (p : Pending) (kept kept_after : Telling) : Type 0 where
   pub answer : Reply
   pub reply : reply_to trace (install_of p.id p.command) ≡ Some answer
   pub read : read_of answer ≡ option_case p.computed 0 (λ x. x.read)
-  pub told : text_after ≡ told_after text p.id answer
+  pub told : kept_after ≡ told_after kept p.id answer
 
 -- ---- the begin of a refresh over an image
 

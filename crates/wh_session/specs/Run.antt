@@ -1,34 +1,32 @@
 -- How far a session has come, and what its next part makes of it.
 use Rattle.std.specs.List.{All, list_any}
-use Rattle.std.specs.Prelude.{◌≡◌, ◌≤◌, ◌+◌, ◌++◌, ◌-◌, List, Some, [], ◌∷◌, false, true, flat_map, slice_get, length, ℕ}
+use Rattle.std.specs.Prelude.{◌≡◌, ◌≤◌, ◌+◌, ◌++◌, ◌-◌, List, Some, [], ◌∷◌, false, true, slice_get, length, ℕ}
 use Rattle.wh_base.specs.declared.statements.Command.{Command}
 use Rattle.wh_base.specs.declared.statements.Entry.{Entry}
 use Rattle.wh_base.specs.declared.statements.Event.{Event}
 use Rattle.wh_base.specs.declared.statements.Section.{Section}
 use Rattle.wh_base.specs.Parts.{section_entries}
 use Rattle.def_built.specs.Commands.{commands_are_built}
-use Rattle.def_journal.specs.Journal.{Told, given_by, reply_to}
+use Rattle.def_journal.specs.Journal.{given_by, reply_to}
 use Rattle.def_output.specs.Reads.{reads_of}
-use Rattle.def_transcript.specs.Texts.{lines_text, reply_lines}
+use Rattle.wh_session.specs.Tally.{both, tally_of, told_text}
+use Rattle.wh_session.specs.declared.tally.Tally.{Tally}
 use Rattle.wh_trace.specs.Reached.{is_of}
 use Rattle.wh_view_law.specs.Read.{IsRead}
 
--- its section, the entries of the parts that are left, the trace after its last part, the text of its replies so far, and
--- how many base rows a refresh that has begun has read, which no reply tells yet
+-- its section, the entries of the parts that are left, the trace after its last part, the text and the tally of its replies so
+-- far, and how many base rows a refresh that has begun has read, which no reply tells yet
 pub record Run : Type 0 where
   pub section : Section
   pub left : List Entry
   pub seen : List Event
   pub text : List ℕ
+  pub tally : Tally
   pub ahead : ℕ
 
 -- a session of these commands with nothing done
 abbrev pub begun : Section → Run
-begun s = record { section = s; left = section_entries s; seen = []; text = []; ahead = 0 }
-
--- the lines of these replies
-abbrev pub told_text : List Told → List ℕ
-told_text told = lines_text (flat_map (λ t. reply_lines t.id t.reply) told)
+begun s = record { section = s; left = section_entries s; seen = []; text = []; tally = tally_of []; ahead = 0 }
 
 -- the commands are of forms that are built, and each asks what its text reads as
 pub record CanRun (s : Section) : Type 0 where
@@ -42,7 +40,7 @@ pub record Continues (r : Run) (trace : List Event) : Type 0 where
   pub apart : list_any (is_of r.section.session) more ≡ false
 
 -- The session has taken its next part: the event of that part is behind the trace, and the text of its reply, where it gives one, behind that
--- of the replies before. The base rows read are those that the replies tell, and those of a refresh that has begun.
+-- of the replies before; it is counted with them. The base rows read are those that the replies tell, and those of a refresh that has begun.
 pub record Takes (r after : Run) (trace trace_after : List Event) (read read_after : ℕ) : Type 0 where
   pub entry : Entry
   pub command : Command
@@ -53,6 +51,7 @@ pub record Takes (r after : Run) (trace trace_after : List Event) (read read_aft
   pub section_is : after.section ≡ r.section
   pub seen_is : after.seen ≡ trace_after
   pub text_is : after.text ≡ r.text ++ told_text (given_by (record { entry = entry; command = command }) (reply_to trace (record { entry = entry; command = command })))
+  pub tally_is : after.tally ≡ both r.tally (tally_of (given_by (record { entry = entry; command = command }) (reply_to trace (record { entry = entry; command = command }))))
   pub read_is : read_after + r.ahead ≡ read + (reads_of (given_by (record { entry = entry; command = command }) (reply_to trace (record { entry = entry; command = command }))) + after.ahead)
   -- where no part is left, all that was read is told
   pub ended : after.left ≡ [] → after.ahead ≡ 0

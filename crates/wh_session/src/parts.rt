@@ -10,6 +10,7 @@ ghost use Rattle.wh_session.specs.Run.{Grows};
 ghost use Rattle.wh_view_law.specs.Read.{IsRead};
 
 use crate::snapshots::{begin_part, select_part, show_part};
+use crate::telling::Telling;
 use std::alloc::{AllocError, Global};
 use wh_answer::Computed;
 use wh_base::reads::Reads;
@@ -17,7 +18,6 @@ use wh_base::replies::Reply;
 use wh_base::shared::Shared;
 use wh_base::statements::{Command, Id, Statement};
 use wh_core::{Begun, Core};
-use wh_render::push_reply;
 
 /// Where a counter stands above so many rows, no more are read: what is read for one command is less than what is left up to 2^64.
 const MOST_READ: u64 = 0x8000_0000_0000_0000;
@@ -38,27 +38,27 @@ pub enum Part {
     Begun(Begun, Option<Computed>),
 }
 
-/// Takes the first part of a command, and writes its reply at the end of the text; or it gives the refresh that has begun, and writes nothing. An error
-/// says that memory ran out, that the counter stands above 2^63 rows, or one of the other things that `Core::commit` names, which no run brings about; then
-/// the core's trace may have the event of the part, the text a part of the reply, and some rows may have been read.
+/// Takes the first part of a command, and tells its reply; or it gives the refresh that has begun, and tells nothing. An error says that memory ran out,
+/// that the counter stands above 2^63 rows, that a number of the tally would have more than 64 bits, or one of the other things that `Core::commit` names,
+/// which no run brings about; then the core's trace may have the event of the part, the text a part of the reply, and some rows may have been read.
 pub fn start<L>(
     alloc: Global,
     core: &mut Core<L>,
     id: Id,
     command: Shared<Command>,
-    text: &mut Vec<u8>,
+    telling: &mut Telling,
     reads: &mut Reads<L>,
 ) -> Result<Option<Pending>, AllocError>
     requires built { IsTrue (command_is_built command) }
     requires read { IsRead command }
     ensures trace { OnOk result (core.new ≡ core.old ++ event_of id command ∷ []) }
-    ensures started { IfOk result (λ pending. IsStarted core.old core.new id command pending text.old.items text.new.items reads.old reads.new) }
+    ensures started { IfOk result (λ pending. IsStarted core.old core.new id command pending telling.old telling.new reads.old reads.new) }
     ensures least { reads.old ≤ reads.new }
     ensures err { OnErr result (Grows core.old core.new) }
 {
     match first_part(alloc, core, id, command.get(), reads)? {
         Part::Replied(reply) => {
-            push_reply(text, id, &reply)?;
+            telling.tell(id, &reply)?;
             Ok(None)
         }
         Part::Begun(begun, computed) => {
@@ -73,16 +73,19 @@ pub fn start<L>(
     }
 }
 
-/// Takes the second part of a refresh, and writes its reply at the end of the text. An error says that memory ran out; then the text may have a part of
-/// the reply.
-pub fn finish<L>(core: &mut Core<L>, pending: Pending, text: &mut Vec<u8>) -> Result<(), AllocError>
+/// Takes the second part of a refresh, and tells its reply. An error is one of `Telling::tell`; then the text may have a part of the reply.
+pub fn finish<L>(
+    core: &mut Core<L>,
+    pending: Pending,
+    telling: &mut Telling,
+) -> Result<(), AllocError>
     requires pending { IsPending core.old pending.id pending.command pending.begun pending.computed }
     ensures trace { core.new ≡ core.old ++ install_of pending.id pending.command ∷ [] }
-    ensures told { OnOk result (IsFinished core.old pending text.old.items text.new.items) }
+    ensures told { OnOk result (IsFinished core.old pending telling.old telling.new) }
 {
     let id = pending.id;
     let reply = second_part(core, pending);
-    push_reply(text, id, &reply)?;
+    telling.tell(id, &reply)?;
     Ok(())
 }
 

@@ -2,6 +2,8 @@ ghost use Rattle.std.specs.Prelude.{◌≡◌, ◌≤◌, [], IfOk, OnErr, false
 ghost use Rattle.wh_session.specs.Run.{CanRun, Continues, Grows, Takes, begun};
 
 use crate::parts::{Pending, finish, start};
+use crate::tally::Tally;
+use crate::telling::Telling;
 use std::alloc::{AllocError, Global};
 use std::marker::Model;
 use std::snapshot::Snapshot;
@@ -12,8 +14,8 @@ use wh_base::statements::{Command, Id, Section};
 use wh_core::Core;
 use wh_trace::laws::sessions_stand_apart;
 
-/// A session, 0 for the setup. Contracts see its section, what is left of its parts, and the text of its replies so far. A command is gone once
-/// it has run.
+/// A session, 0 for the setup. Contracts see its section, what is left of its parts, and the text and the tally of its replies so far. A command
+/// is gone once it has run.
 #[derive(Drop)]
 pub struct Session<L> {
     number: u32,
@@ -21,7 +23,7 @@ pub struct Session<L> {
     taken: u32,
     rest: IntoIter<Shared<Command>>,
     pending: Option<Pending>,
-    text: Vec<u8>,
+    telling: Telling,
     section: Snapshot<Section>,
     seen: Option<Snapshot<Core<L>>>,
 }
@@ -36,7 +38,7 @@ impl<L> Model for Session<L> {
 
     ghost use Rattle.wh_session.specs.Held.{Holds, run_of};
 
-    ghost view = { λ s. run_of s.section.value (option_case s.seen [] (λ c. c.value)) s.number s.taken s.pending (into_iter_items s.rest) s.text.items };
+    ghost view = { λ s. run_of s.section.value (option_case s.seen [] (λ c. c.value)) s.number s.taken s.pending (into_iter_items s.rest) s.telling };
 
     ghost invariant = { λ s. Holds s.section.value (option_case s.seen [] (λ c. c.value)) s.number s.taken s.pending (into_iter_items s.rest) (into_iter_len s.rest) };
 }
@@ -54,7 +56,7 @@ impl<L> Session<L> {
             taken: 0,
             rest: commands.into_vec().into_iter(),
             pending: None,
-            text: Vec::new(alloc),
+            telling: Telling::new(alloc),
             section: whole,
             seen: None,
         }
@@ -71,16 +73,23 @@ impl<L> Session<L> {
     pub fn into_text(self) -> Vec<u8>
         ensures { result.items ≡ self.text }
     {
-        let Session { text, .. } = self;
-        text
+        let Session { telling, .. } = self;
+        telling.into_text()
+    }
+
+    /// What is counted of its replies so far.
+    pub fn tally(&self) -> Tally
+        ensures { result ≡ self.now.tally }
+    {
+        self.telling.tally()
     }
 
     /// Takes the session's next part: the event of the part is the next of the core's trace, and its reply, where the part gives one, is the definition's. It
     /// answers false exactly where no part is left; then nothing changes. A refresh is computed at its begin, over the image that is taken there.
     ///
     /// The core's trace has to go on from what it was at the session's last part, without an event of the session. An error says that memory ran out, that
-    /// the counter stands above 2^63 rows, or one of the other things that `Core::commit` names, which no run brings about; then the core's trace may have the
-    /// event of the part, and the session must not be run again.
+    /// the counter stands above 2^63 rows, that a number of the tally would have more than 64 bits, or one of the other things that `Core::commit` names,
+    /// which no run brings about; then the core's trace may have the event of the part, and the session must not be run again.
     ///
     /// `reads` rises by the base rows that the reply says were read; for a refresh it rises at the begin by those of the install's reply. After an error it
     /// may have risen by more or less.
@@ -101,7 +110,7 @@ impl<L> Session<L> {
     {
         if let Some(pending) = self.pending.take() {
             sessions_stand_apart();
-            finish(core, pending, &mut self.text)?;
+            finish(core, pending, &mut self.telling)?;
             self.seen = Some(Snapshot::of(core));
             return Ok(true);
         }
@@ -113,7 +122,7 @@ impl<L> Session<L> {
             session: self.number,
             command: self.taken,
         };
-        self.pending = start(alloc, core, id, command, &mut self.text, reads)?;
+        self.pending = start(alloc, core, id, command, &mut self.telling, reads)?;
         self.seen = Some(Snapshot::of(core));
         Ok(true)
     }

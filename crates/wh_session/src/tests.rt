@@ -3,7 +3,7 @@ ghost use Rattle.def_built.specs.Commands.{command_is_built, query_is_built};
 ghost use Rattle.wh_session.specs.Run.{CanRun};
 ghost use Rattle.wh_view_law.specs.Read.{IsRead, ReadsAs};
 
-use crate::Session;
+use crate::{Session, Tally};
 use std::alloc::{AllocError, Global};
 use std::test::Fail;
 use wh_base::reads::Reads;
@@ -227,9 +227,9 @@ fn setup(alloc: Global, letters: &[u8]) -> Result<Section, AllocError>
     Ok(section)
 }
 
-/// What the setup prints that has these commands, and how many rows it reads.
+/// What the setup prints that has these commands, what is counted of that, and how many rows it reads.
 #[tactic(auto, using(crate::proofs::Asking::runs))]
-fn printed(alloc: Global, letters: &[u8]) -> Result<(Vec<u8>, u64), AllocError> {
+fn printed(alloc: Global, letters: &[u8]) -> Result<(Vec<u8>, Tally, u64), AllocError> {
     let mut core = Core::new(alloc)?;
     let mut reads = Reads::new(());
     let mut session = Session::new(alloc, setup(alloc, letters)?);
@@ -239,15 +239,19 @@ fn printed(alloc: Global, letters: &[u8]) -> Result<(Vec<u8>, u64), AllocError> 
             break;
         }
     }
-    Ok((session.into_text(), reads.count()))
+    let tally = session.tally();
+    Ok((session.into_text(), tally, reads.count()))
 }
 
-/// Letters, what is printed for them, and how many rows are read.
-const PRINTED: [(&[u8], &[u8], u64); 4] = [
-    (b"", b"", 0),
+/// Letters, what is printed for them, how many of the replies are refusals and how many answers from a view, and how many
+/// rows are read.
+const PRINTED: [(&[u8], &[u8], u64, u64, u64); 4] = [
+    (b"", b"", 0, 0, 0),
     (
         b"tr",
         b"0.1 DONE SCN 1 READ 0\n0.2 REFUSED MV-02 V READ 0\n",
+        1,
+        0,
         0,
     ),
     (
@@ -262,6 +266,8 @@ const PRINTED: [(&[u8], &[u8], u64); 4] = [
 0.7 ANSWER SCN 2 PLAN FULL V@2 READ 0 ROWS 1
 7|1
 ",
+        0,
+        1,
         1,
     ),
     (
@@ -277,6 +283,8 @@ const PRINTED: [(&[u8], &[u8], u64); 4] = [
 0.7 ANSWER SCN 5 PLAN BASE READ 0 ROWS 0
 0.8 COMMITTED SCN 6 ROWS 0 READ 0 VIEWS 0
 ",
+        0,
+        0,
         7,
     ),
 ];
@@ -285,10 +293,14 @@ const PRINTED: [(&[u8], &[u8], u64); 4] = [
 #[test]
 fn setups(rt: HostRuntime) -> Result<(), Fail> {
     let alloc = rt.alloc();
-    for (letters, wanted, rows) in PRINTED {
-        let (text, read) = printed(alloc, letters)?;
+    for (letters, wanted, refused, rewritten, rows) in PRINTED {
+        let (text, tally, read) = printed(alloc, letters)?;
         assert!(rt; text.as_slice() == wanted);
         assert_eq!(rt; read, rows);
+        assert_eq!(rt;
+            (tally.refused, tally.rewritten, tally.read),
+            (refused, rewritten, rows)
+        );
     }
     Ok(())
 }
