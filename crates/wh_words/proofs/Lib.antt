@@ -1,0 +1,5 @@
+mod Command
+mod Forms
+mod Sales
+mod Utf8
+mod Walked
