@@ -1,0 +1,4 @@
+mod Built
+mod Counting
+mod Reading
+mod Whole
