@@ -7,13 +7,13 @@ use Rattle.wh_base.specs.Parts.{section_entries}
 use Rattle.wh_base.specs.declared.statements.Entry.{Entry}
 use Rattle.wh_base.specs.declared.statements.Script.{Script}
 use Rattle.wh_base.specs.declared.statements.Section.{Section}
-use Rattle.def_journal.specs.Journal.{is_legal, of_session, order_of}
+use Rattle.def_journal.specs.Journal.{is_legal, of_session, order_of, state_of, trace_of}
 use Rattle.def_transcript.specs.Texts.{journal_line, lines_text}
 use Rattle.wh_order.specs.Laws.{session_told, told_text}
 use Rattle.wh_order.proofs.Journals.{each_own}
 use Rattle.wh_order.proofs.Lawful.{laws_hold}
 use Rattle.wh_session.specs.Run.{Run}
-use Rattle.wh_top.specs.Running.{AreAsFar, CountedSoFar, IsAsFar, IsRunnable, ahead_of, read_by}
+use Rattle.wh_top.specs.Running.{AreAsFar, CountedSoFar, HasRun, IsAsFar, IsRunnable, ahead_of, read_by}
 use Rattle.wh_top.specs.Top.{Counted, output_of, reads_in, script_read}
 use Rattle.wh_top.proofs.SoFar.{neither}
 
@@ -62,14 +62,22 @@ output_whole script runs runnable far =
     ap (λ t. t ++ lines_text (journal_line journal ∷ [])) (texts_far script journal script.sections runs far)
     ∙ sym (laws_hold.transcript_by_sessions script journal (order_legal script runnable))
 
--- the same where the script and its order go by other names
-pub output_written : (script whole : Script) (journal : List Entry) (runs : List Run) (text out : List ℕ) → IsRunnable script → whole ≡ script → journal ≡ order_of script → AreAsFar whole journal whole.sections runs → text ≡ flat_map (λ r. r.text) runs → out ≡ text ++ lines_text (journal_line journal ∷ []) → out ≡ output_of (Some script)
-output_written script whole journal runs text out runnable same order far texts written =
-    let ended : AreAsFar script (order_of script) script.sections runs = subst (λ es. AreAsFar script es script.sections runs) order (subst (λ s. AreAsFar s journal s.sections runs) same far) in
+-- the script has run whole, where it and its order go by other names
+pub has_run : (script whole : Script) (journal : List Entry) (runs : List Run) (scn : ℕ) → whole ≡ script → journal ≡ order_of script → AreAsFar whole journal whole.sections runs → scn ≡ (state_of (trace_of whole journal)).catalog.scn → HasRun script runs journal scn
+has_run script whole journal runs scn same order far is =
+    record {
+      journal_is = order;
+      far = subst (λ es. AreAsFar script es script.sections runs) order (subst (λ s. AreAsFar s journal s.sections runs) same far);
+      scn_is = is ∙ ap (λ s. (state_of (trace_of s journal)).catalog.scn) same ∙ ap (λ es. (state_of (trace_of script es)).catalog.scn) order;
+    }
+
+-- what is written of it
+pub output_ran : (script : Script) (journal : List Entry) (runs : List Run) (scn : ℕ) (text out : List ℕ) → IsRunnable script → HasRun script runs journal scn → text ≡ flat_map (λ r. r.text) runs → out ≡ text ++ lines_text (journal_line journal ∷ []) → out ≡ output_of (Some script)
+output_ran script journal runs scn text out runnable ran texts written =
     written
     ∙ ap (λ t. t ++ lines_text (journal_line journal ∷ [])) texts
-    ∙ ap (λ es. flat_map (λ r. r.text) runs ++ lines_text (journal_line es ∷ [])) order
-    ∙ output_whole script runs runnable ended
+    ∙ ap (λ es. flat_map (λ r. r.text) runs ++ lines_text (journal_line es ∷ [])) ran.journal_is
+    ∙ output_whole script runs runnable ran.far
 
 pub output_counted : (script whole : Script) (journal : List Entry) (runs : List Run) (old reads : List ℕ) → IsRunnable script → whole ≡ script → journal ≡ order_of script → AreAsFar whole journal whole.sections runs → CountedSoFar whole journal runs old reads → Counted old reads (Some script)
 output_counted script whole journal runs old reads runnable same order far counted =

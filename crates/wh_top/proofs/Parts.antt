@@ -1,21 +1,25 @@
 -- A part more of a session, and what it leaves of the others.
-use Rattle.std.proofs.Common.{◌≡◌, ◌∙◌, sym, ap, subst, refl, arith, ℕ, suc, zero, ◌-◌, ◌==◌, ◌||◌, Bool, true, false, cond, List, [], ◌∷◌, ◌++◌, length, drop, find, flat_map, slice_get, Some, None}
-use Rattle.std.specs.Prelude.{slice_set}
+use Rattle.std.proofs.Common.{◌≡◌, ◌∙◌, sym, ap, subst, refl, arith, ℕ, suc, zero, ◌+◌, ◌-◌, ◌==◌, ◌||◌, Bool, true, false, cond, List, [], ◌∷◌, ◌++◌, length, drop, find, flat_map, slice_get, Some, None}
+use Rattle.std.specs.Prelude.{count_by, slice_set}
 use Rattle.std.proofs.lemmas.Bool.{eq-eqb, eqb-true, eqb-false, ne_eqb}
 use Rattle.std.proofs.lemmas.List.{append-nil, append_assoc, map-append, length-append}
 use Rattle.std.proofs.lemmas.List.Concat.{flat_map-append}
 use Rattle.std.proofs.lemmas.List.Elements.{filter-append}
 use Rattle.std.proofs.lemmas.List.Folds.{list_any-append}
+use Rattle.std.proofs.lemmas.List.Sums.{sum_by-append}
 use Rattle.wh_base.specs.Parts.{section_entries}
 use Rattle.wh_base.specs.declared.statements.Entry.{Entry}
 use Rattle.wh_base.specs.declared.statements.Event.{Event}
 use Rattle.wh_base.specs.declared.statements.Script.{Script}
 use Rattle.wh_base.specs.declared.statements.Section.{Section}
 use Rattle.def_journal.specs.Journal.{Told, command_of, given_by, of_session, replies_of, reply_to, trace_of}
+use Rattle.def_output.specs.Generator.{is_refused, is_rewritten}
+use Rattle.def_output.specs.Reads.{read_of}
 use Rattle.def_transcript.specs.Texts.{lines_text, reply_lines}
 use Rattle.wh_order.specs.Laws.{IsNext, session_told, told_in, told_text}
 use Rattle.wh_order.proofs.Told.{told_in_of}
 use Rattle.wh_session.specs.Run.{Run, Takes}
+use Rattle.wh_session.specs.Tally.{both, tally_of}
 use Rattle.wh_trace.specs.Reached.{is_of}
 use Rattle.wh_top.specs.Running.{AreAsFar, IsAsFar, place_of}
 use Rattle.wh_top.proofs.Apart.{AreApart, AreOthers}
@@ -38,6 +42,16 @@ told_text_append xs ys =
     ap lines_text (flat_map-append (λ (t : Told). reply_lines t.id t.reply) xs ys)
     ∙ flat_map-append (λ (l : List ℕ). l ++ 10 ∷ []) (flat_map (λ t. reply_lines t.id t.reply) xs) (flat_map (λ t. reply_lines t.id t.reply) ys)
 
+count_append : (p : Told → Bool) (xs ys : List Told) → count_by p (xs ++ ys) ≡ count_by p xs + count_by p ys
+count_append p xs ys = sum_by-append (λ (t : Told). cond (p t) 1 0) xs ys
+
+tally_append : (xs ys : List Told) → tally_of (xs ++ ys) ≡ both (tally_of xs) (tally_of ys)
+tally_append xs ys = λ i. record {
+  refused = count_append is_refused xs ys i;
+  rewritten = count_append is_rewritten xs ys i;
+  read = sum_by-append (λ (t : Told). read_of t.reply) xs ys i;
+}
+
 -- the entries of a session
 own_push : (front : List Entry) (e : Entry) (n : ℕ) (b : Bool) → (e.session == n) ≡ b → of_session n (front ++ e ∷ []) ≡ of_session n front ++ cond b (e ∷ []) []
 own_push front e n b is = filter-append (λ x. x.session == n) front (e ∷ []) ∙ ap (λ c. of_session n front ++ cond c (e ∷ []) []) is
@@ -59,6 +73,7 @@ other_far script front e s r other far =
       section_is = far.section_is;
       left_is = far.left_is ∙ sym (ap (λ es. drop (length es) (section_entries s)) same);
       text_is = far.text_is ∙ sym (ap told_text told);
+      tally_is = far.tally_is ∙ sym (ap tally_of told);
       goes_on = record {
         more = far.goes_on.more ++ x ∷ [];
         is = trace_push script front e ∙ ap (λ t. t ++ x ∷ []) far.goes_on.is ∙ append_assoc r.seen far.goes_on.more (x ∷ []);
@@ -133,10 +148,13 @@ own_far script front e r after trace_after read read_after next own far takes =
     told_push script front e s.session
     ∙ ap (λ b. session_told script front s ++ cond b (given_by x (reply_to trace x)) []) same in
     let text : told_text (session_told script (front ++ e ∷ []) s) ≡ told_text (session_told script front s) ++ told_text (given_by x (reply_to trace x)) = ap told_text told ∙ told_text_append (session_told script front s) (given_by x (reply_to trace x)) in
+    let tally : tally_of (session_told script (front ++ e ∷ []) s) ≡ both (tally_of (session_told script front s)) (tally_of (given_by x (reply_to trace x))) = ap tally_of told ∙ tally_append (session_told script front s) (given_by x (reply_to trace x)) in
     record {
       section_is = takes.section_is ∙ far.section_is;
       left_is = more ∙ sym (ap (λ n. drop n (section_entries s)) count);
       text_is = takes.text_is ∙ ap (λ t. t ++ told_text (given_by (record { entry = takes.entry; command = takes.command }) (reply_to trace (record { entry = takes.entry; command = takes.command })))) far.text_is ∙ sym (text ∙ ap (λ y. told_text (session_told script front s) ++ told_text (given_by y (reply_to trace y))) event);
+      tally_is = takes.tally_is ∙ ap (λ t. both t (tally_of (given_by (record { entry = takes.entry; command = takes.command }) (reply_to trace (record { entry = takes.entry; command = takes.command }))))) far.tally_is
+          ∙ sym (tally ∙ ap (λ y. both (tally_of (session_told script front s)) (tally_of (given_by y (reply_to trace y)))) event);
       goes_on = record {
         more = [];
         is = sym (trace_is script front e r after trace_after read read_after next own far takes) ∙ sym takes.seen_is ∙ sym (append-nil after.seen);

@@ -1,5 +1,5 @@
 -- A script that is read can be run.
-use Rattle.std.proofs.Common.{◌≡◌, arith, ℕ, suc, zero, ◌<◌, ◌≤◌, ◌==◌, ◌||◌, true, List, [], ◌∷◌, length, map, get_or}
+use Rattle.std.proofs.Common.{◌≡◌, ap, subst, sym, arith, ℕ, suc, zero, ◌<◌, ◌≤◌, ◌==◌, ◌||◌, true, List, [], ◌∷◌, length, map, get_or}
 use Rattle.std.specs.List.{All, AllByRecursion, AllPairs, list_all}
 use Rattle.std.proofs.lemmas.Bool.{and_parts}
 use Rattle.std.proofs.lemmas.List.Elements.{All-from_recursion}
@@ -10,6 +10,9 @@ use Rattle.def_built.specs.declared.forms.Form.TheVariants as forms
 use Rattle.wh_base.specs.Lists.{is_empty}
 use Rattle.wh_base.specs.declared.statements.Script.{Script}
 use Rattle.wh_base.specs.declared.statements.Section.{Section}
+use Rattle.def_journal.specs.Journal.{session_numbers}
+use Rattle.wh_order.specs.Laws.{number_twice}
+use Rattle.wh_session.specs.Run.{CanRun}
 use Rattle.wh_view_law.specs.Read.{IsRead}
 use Rattle.wh_top.specs.Running.{IsRunnable, most_sessions}
 use Rattle.wh_top.proofs.Apart.{once_from_ascent}
@@ -33,13 +36,30 @@ numbers_within [] k d within h = absurd (omega (arith, within))
 numbers_within (s ∷ ss) zero d within h = h 0 s (omega arith)
 numbers_within (s ∷ ss) (suc k) d within h = numbers_within ss k d (omega (arith, within)) (λ j t inside. h (suc j) t (omega (arith, inside)))
 
-pub runnable : (script : Script) → script_is_built script ≡ true → All (λ s. All IsRead s.commands) script.sections → AllPairs (λ s t. s.session < t.session) script.sections → All (λ s. s.session ≤ most_sessions) script.sections → IsRunnable script
-runnable script built read ascend low =
+can_run : (script : Script) → script_is_built script ≡ true → All (λ s. All IsRead s.commands) script.sections → All CanRun script.sections
+can_run script built read =
     let parts = and_parts (sections_are_built script.sections) (is_empty script.order || is_built forms.Order) built in
     let commands : All (λ s. commands_are_built s.commands ≡ true) script.sections = All-from_recursion (λ s. commands_are_built s.commands ≡ true) script.sections (all_built script.sections parts.0) in
+    λ k d within. record { built = commands k d within; read = read k d within }
+
+pub runnable : (script : Script) → script_is_built script ≡ true → All (λ s. All IsRead s.commands) script.sections → AllPairs (λ s t. s.session < t.session) script.sections → All (λ s. s.session ≤ most_sessions) script.sections → IsRunnable script
+runnable script built read ascend low =
     record {
       built = built;
-      sections = λ k d within. record { built = commands k d within; read = read k d within };
+      sections = can_run script built read;
       differ = once_from_ascent script ascend;
       within = λ k d within. numbers_within script.sections k d within low;
+    }
+
+-- a script with these sessions
+few_numbers : All (λ n. n ≤ most_sessions) (0 ∷ 1 ∷ 2 ∷ 3 ∷ [])
+few_numbers = All-from_recursion (λ n. n ≤ most_sessions) (0 ∷ 1 ∷ 2 ∷ 3 ∷ []) (omega arith, (omega arith, (omega arith, (omega arith, tt))))
+
+pub three_sessions : (script : Script) → script_is_built script ≡ true → All (λ s. All IsRead s.commands) script.sections → session_numbers script ≡ 0 ∷ 1 ∷ 2 ∷ 3 ∷ [] → IsRunnable script
+three_sessions script built read numbers =
+    record {
+      built = built;
+      sections = can_run script built read;
+      differ = ap number_twice numbers;
+      within = subst (All (λ n. n ≤ most_sessions)) (sym numbers) few_numbers;
     }

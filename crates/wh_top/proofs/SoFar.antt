@@ -2,14 +2,14 @@
 use Rattle.std.proofs.Common.{◌≡◌, ◌∙◌, sym, ap, subst, refl, arith, ℕ, suc, zero, ◌+◌, ◌<◌, ◌≤◌, ◌==◌, Bool, true, false, cond, List, [], ◌∷◌, ◌++◌, length, map, get_or, take, drop, find, Some}
 use Rattle.std.specs.List.{All, enumerate_from}
 use Rattle.std.specs.Prelude.{slice_index, slice_set}
-use Rattle.std.proofs.lemmas.List.{append_assoc, length-set, take_more}
+use Rattle.std.proofs.lemmas.List.{append_assoc, length-set, take_all, take_more}
 use Rattle.std.proofs.lemmas.List.Sums.{sum_by-cons}
 use Rattle.wh_base.specs.Parts.{section_entries}
 use Rattle.wh_base.specs.declared.statements.Entry.{Entry}
 use Rattle.wh_base.specs.declared.statements.Event.{Event}
 use Rattle.wh_base.specs.declared.statements.Script.{Script}
 use Rattle.wh_base.specs.declared.statements.Section.{Section}
-use Rattle.def_journal.specs.Journal.{given_by, is_legal, of_session, reply_to, trace_of}
+use Rattle.def_journal.specs.Journal.{given_by, is_legal, of_session, reply_to, state_of, trace_of}
 use Rattle.def_output.specs.Reads.{reads_of}
 use Rattle.wh_order.specs.Laws.{IsNext}
 use Rattle.wh_order.proofs.Journals.{next_part}
@@ -35,6 +35,7 @@ begun_far script (s ∷ ss) = (
     section_is = refl;
     left_is = refl;
     text_is = refl;
+    tally_is = refl;
     goes_on = record { more = []; is = refl; apart = refl };
     ended = λ h. refl;
   },
@@ -134,6 +135,13 @@ step_so_far script front rest e trace trace_after runs runs_after old reads read
     subst (λ rs. SoFar script (front ++ e ∷ []) trace_after rs old reads_after) (sym taken.runs_are) (subst (λ cs. SoFar script (front ++ e ∷ []) trace_after (slice_set runs place taken.after) old cs) (sym taken.reads_are) after)
 
 -- ---- the parts in a loop
+
+-- behind the whole journal the core's SCN is that of its trace
+pub scn_far : (script : Script) (journal entries : List Entry) (n scn : ℕ) (trace : List Event) (runs : List Run) (old reads : List ℕ) → SoFar script (take n journal) trace runs old reads → entries ≡ journal → length entries ≤ n
+    → scn ≡ (state_of trace).catalog.scn → scn ≡ (state_of (trace_of script journal)).catalog.scn
+scn_far script journal entries n scn trace runs old reads far same whole is =
+    let all : length journal ≤ n = subst (λ es. length es ≤ n) same whole in
+    is ∙ ap (λ t. (state_of t).catalog.scn) (far.trace_is ∙ ap (trace_of script) (take_all n journal all))
 
 split_at : (xs : List Entry) (i : ℕ) (d : Entry) → i < length xs → take i xs ++ get_or xs i d ∷ drop (suc i) xs ≡ xs
 split_at [] i d within = absurd (omega (arith, within))

@@ -64,3 +64,43 @@ IsUnread (statuses.BadScript line kind) = Unit {0}
 IsUnread statuses.Done = ⊥
 IsUnread statuses.WriteFault = ⊥
 IsUnread statuses.NoMemory = ⊥
+
+-- the source is at fault
+abbrev pub IsOfSource : Status → Type 0
+IsOfSource statuses.ReadFault = Unit {0}
+IsOfSource statuses.TooLong = Unit {0}
+IsOfSource (statuses.BadScript line kind) = Unit {0}
+IsOfSource statuses.Done = ⊥
+IsOfSource statuses.WriteFault = ⊥
+IsOfSource statuses.NoMemory = ⊥
+IsOfSource statuses.BadWords = ⊥
+
+-- nothing was begun
+abbrev pub IsUnbegun : Status → Type 0
+IsUnbegun statuses.BadWords = Unit {0}
+IsUnbegun statuses.NoMemory = Unit {0}
+IsUnbegun statuses.Done = ⊥
+IsUnbegun statuses.WriteFault = ⊥
+IsUnbegun statuses.ReadFault = ⊥
+IsUnbegun (statuses.BadScript line kind) = ⊥
+IsUnbegun statuses.TooLong = ⊥
+
+-- the words were those of a form
+abbrev pub IsBegun : Status → Type 0
+IsBegun statuses.BadWords = ⊥
+IsBegun statuses.Done = Unit {0}
+IsBegun statuses.WriteFault = Unit {0}
+IsBegun statuses.NoMemory = Unit {0}
+IsBegun statuses.ReadFault = Unit {0}
+IsBegun (statuses.BadScript line kind) = Unit {0}
+IsBegun statuses.TooLong = Unit {0}
+
+-- how `gen` may end, which has no source
+abbrev pub IsOfGen : Status → Type 0
+IsOfGen statuses.Done = Unit {0}
+IsOfGen statuses.WriteFault = Unit {0}
+IsOfGen statuses.NoMemory = Unit {0}
+IsOfGen statuses.BadWords = ⊥
+IsOfGen statuses.ReadFault = ⊥
+IsOfGen (statuses.BadScript line kind) = ⊥
+IsOfGen statuses.TooLong = ⊥

@@ -7,10 +7,12 @@ use Rattle.wh_base.specs.declared.statements.Script.{Script}
 use Rattle.wh_base.specs.declared.statements.Section.{Section}
 use Rattle.wh_base.specs.declared.statements.Event.{Event}
 use Rattle.def_built.specs.Form.{script_is_built}
-use Rattle.def_journal.specs.Journal.{of_session, replies_of, session_numbers, trace_of}
+use Rattle.def_journal.specs.Journal.{of_session, order_of, replies_of, session_numbers, state_of, trace_of}
 use Rattle.def_output.specs.Reads.{reads_of}
 use Rattle.wh_order.specs.Laws.{number_twice, session_told, told_in, told_text}
 use Rattle.wh_session.specs.Run.{CanRun, Continues, Run, Takes}
+use Rattle.wh_session.specs.Tally.{tally_of}
+use Rattle.wh_session.specs.declared.tally.Tally.{Tally}
 
 -- the greatest number of a session
 abbrev pub most_sessions : ℕ
@@ -28,6 +30,7 @@ pub record IsAsFar (script : Script) (front : List Entry) (s : Section) (r : Run
   pub section_is : r.section ≡ s
   pub left_is : r.left ≡ drop (length (of_session s.session front)) (section_entries s)
   pub text_is : r.text ≡ told_text (session_told script front s)
+  pub tally_is : r.tally ≡ tally_of (session_told script front s)
   pub goes_on : Continues r (trace_of script front)
   pub ended : r.left ≡ [] → r.ahead ≡ 0
 
@@ -49,6 +52,15 @@ read_by script front runs n = reads_of (told_in n (replies_of (trace_of script f
 -- the counter of each session rose by the base rows that it has read
 abbrev pub CountedSoFar : Script → List Entry → List Run → List ℕ → List ℕ → Type 0
 CountedSoFar script front runs old new = new ≡ map (λ p. p.1 + read_by script front runs p.0) (enumerate_from 0 old)
+
+-- the tallies of all sessions together
+abbrev pub total : List Run → Tally
+total runs =
+    record { refused = sum_by (λ r. r.tally.refused) runs; rewritten = sum_by (λ r. r.tally.rewritten) runs; read = sum_by (λ r. r.tally.read) runs }
+
+-- how many commands these sections have
+abbrev pub command_count : List Section → ℕ
+command_count sections = sum_by (λ s. length s.commands) sections
 
 -- the place of the session with the number n, or how many there are
 abbrev pub place_of : ℕ → List Run → ℕ
@@ -74,3 +86,9 @@ pub record IsTaken (n : ℕ) (runs runs_after : List Run) (trace trace_after : L
   pub count : ℕ
   pub reads_are : reads_after ≡ slice_set reads n count
   pub takes : Takes run after trace trace_after (slice_index reads n) count
+
+-- The script has run whole in its own order, and its trace left this SCN.
+pub record HasRun (script : Script) (runs : List Run) (journal : List Entry) (scn : ℕ) : Type 0 where
+  pub journal_is : journal ≡ order_of script
+  pub far : AreAsFar script (order_of script) script.sections runs
+  pub scn_is : scn ≡ (state_of (trace_of script (order_of script))).catalog.scn

@@ -131,11 +131,6 @@ const FAULTS: &[(&str, u64, ScriptKind)] = &[
     ("@end\n\r", 2, ScriptKind::AfterEnd),
     ("@end\r\n \t\r\n;\n", 3, ScriptKind::AfterEnd),
     (
-        "@setup\n@load T\n1\n@endload\n@end\n",
-        2,
-        ScriptKind::NotBuilt,
-    ),
-    (
         "@setup\nCREATE TABLE T (A NUMBER) PARTITION BY RANGE (A) (PARTITION P VALUES LESS THAN (9));\n",
         2,
         ScriptKind::NotBuilt,

@@ -1,4 +1,5 @@
-//! The top call: a script from a source, run in the order that the form `order` gives it, its transcript to a sink.
+//! The top call: under `order` a script from a source, run in its own order, its transcript to a sink; under `gen` the summary of
+//! the generated script.
 #![tactic(auto)]
 
 #[cfg(test)]
@@ -6,6 +7,7 @@ mod faults;
 mod input;
 mod output;
 mod running;
+mod summary;
 #[cfg(test)]
 mod tests;
 mod top;

@@ -1,5 +1,5 @@
 ghost use Rattle.std.specs.Prelude.{◌≡◌, ◌<◌, IfOk, OnOk, length, map, true};
-ghost use Rattle.def_journal.specs.Journal.{is_legal};
+ghost use Rattle.def_journal.specs.Journal.{is_legal, state_of, trace_of};
 ghost use Rattle.wh_session.specs.Run.{begun};
 ghost use Rattle.wh_top.specs.Running.{AreAsFar, CountedSoFar, HasNext, IsRunnable, IsTaken, place_of};
 
@@ -23,8 +23,8 @@ pub fn sessions_of<L>(alloc: Global, script: Script) -> Result<Vec<Session<L>>, 
     Ok(sessions)
 }
 
-/// Takes the parts of a legal journal one after another, from the empty catalog on. An error says that memory ran out, or
-/// what else `Session::run_step` names, which no run brings about.
+/// Takes the parts of a legal journal one after another, from the empty catalog on, and gives the last SCN. An error says
+/// that memory ran out, or what else `Session::run_step` names, which no run brings about.
 ///
 /// A part costs a look at each session.
 pub fn take_parts<L>(
@@ -33,19 +33,20 @@ pub fn take_parts<L>(
     sessions: &mut [Session<L>],
     journal: &Seq<Entry>,
     reads: &mut [Reads<L>],
-) -> Result<(), AllocError>
+) -> Result<u64, AllocError>
     requires runnable { IsRunnable script.value }
     requires legal { is_legal script.value journal.now ≡ true }
     requires sessions { sessions.old ≡ map begun script.value.sections }
     requires counters { length reads.old ≡ 65 }
     ensures far { OnOk result (AreAsFar script.value journal.now script.value.sections sessions.new) }
     ensures counted { OnOk result (CountedSoFar script.value journal.now sessions.new reads.old reads.new) }
+    ensures scn { IfOk result (λ n. n ≡ (state_of (trace_of script.value journal.now)).catalog.scn) }
 {
     let mut core = Core::new(alloc)?;
     for entry in journal.as_slice() {
         take_part(alloc, &mut core, sessions, entry.session, reads)?;
     }
-    Ok(())
+    Ok(core.scn())
 }
 
 /// Takes the next part of the session with this number. An error is that of `Session::run_step`.

@@ -206,7 +206,17 @@ fn scripts(rt: HostRuntime) -> Result<(), Fail> {
 #[test]
 fn other_words(rt: HostRuntime) -> Result<(), Fail> {
     let alloc = rt.alloc();
-    for each in [&[][..], &["run"], &["orders"], &["order", "order"]] {
+    for each in [
+        &[][..],
+        &["run"],
+        &["check"],
+        &["orders"],
+        &["order", "order"],
+        &["gen"],
+        &["gen", "0"],
+        &["gen", "01"],
+        &["gen", "100001"],
+    ] {
         let mut reads = counters(alloc)?;
         let mut source = MemorySource::new(Vec::new(alloc), 7, Vec::new(alloc));
         let mut sink = MemorySink::new(alloc, 4, Vec::new(alloc));
@@ -242,5 +252,20 @@ fn greatest_length(rt: HostRuntime) -> Result<(), Fail> {
         assert_eq!(rt; found, status, "{length} bytes");
         assert!(rt; sink.bytes().is_empty());
     }
+    Ok(())
+}
+
+/// The summary of the generated script with one sale. A source that fails is not asked.
+#[test]
+fn generated(rt: HostRuntime) -> Result<(), Fail> {
+    let alloc = rt.alloc();
+    let mut reads = counters(alloc)?;
+    let mut source = MemorySource::new(Vec::new(alloc), 7, Vec::from_array(alloc, [1])?);
+    let mut sink = MemorySink::new(alloc, 64, Vec::new(alloc));
+    let words = words(alloc, &["gen", "1"])?;
+    let status = top_order(alloc, &words, &mut source, &mut sink, reads.as_mut_slice());
+    assert_eq!(rt; status, Status::Done);
+    let lines = b"gen 1\ncommands 45\nrefused 0\nrewritten 10\nread 4091\nscn 14\n";
+    assert!(rt; is_same(sink.bytes(), lines));
     Ok(())
 }

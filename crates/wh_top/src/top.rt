@@ -1,32 +1,38 @@
-ghost use Rattle.std.specs.Prelude.{◌≡◌, ◌<◌, ◌≤◌, ◌^◌, ◌↔◌, length, Err, IfSome, IsSome, All, false};
+ghost use Rattle.std.specs.Prelude.{◌≡◌, ◌<◌, ◌≤◌, ◌^◌, length, All, Err, IfSome, IsSome, None, Some, false, ℕ};
 ghost use Rattle.std.specs.Io.KnownBytes.{Appends, IsAtEnd};
 ghost use Rattle.def_built.specs.Form.{built_script};
+ghost use Rattle.def_output.specs.Generator.{generated, summary};
+ghost use Rattle.def_output.specs.Output.{Generating, Ordering};
+ghost use Rattle.def_transcript.specs.Texts.{lines_text};
 ghost use Rattle.wh_io.specs.Causes.{Rose, AppendsPart};
-ghost use Rattle.wh_top.specs.Endings.{IfBadScript, IsOfBytes, IsSilent, IsUnread, IsWritten};
-ghost use Rattle.wh_top.specs.Top.{Counted, is_order, most_bytes, output_of, script_read};
+ghost use Rattle.wh_top.specs.Endings.{IfBadScript, IsBegun, IsOfBytes, IsOfGen, IsOfSource, IsSilent, IsUnbegun, IsUnread, IsWritten};
+ghost use Rattle.wh_top.specs.Top.{Counted, IfInput, most_bytes, output_of, script_of_form, script_read, text_of_form};
+ghost use Rattle.wh_words.specs.Words.{built_form};
 
 use crate::input::{InputFault, read_input};
 use crate::output::output;
-use std::alloc::Global;
+use crate::summary::summary;
+use std::alloc::{AllocError, Global};
 use wh_base::reads::Reads;
 use wh_base::seq::Seq;
 use wh_base::statements::{BadScript, ScriptKind};
 use wh_base::txt::Txt;
 use wh_io::{Sink, Source, write_all};
+use wh_words::{Words, form};
 
 /// How a call ended.
 #[derive(Clone, Copy, Debug, PartialEq, Eq)]
 pub enum Status {
-    /// The transcript is written whole.
+    /// All is written: the transcript, or the summary.
     Done,
     /// Memory ran out; or more than 2^63 rows were read, or one of the other bounds was met that no run reaches and that
     /// `Session::run_step` names.
     NoMemory,
-    /// The words aren't the one word `order`.
+    /// The words are neither `order` nor `gen` and a number from 1 to 100000.
     BadWords,
     /// The source failed.
     ReadFault,
-    /// The sink failed; it has a part of the transcript.
+    /// The sink failed; it has a part of what was to be written.
     WriteFault,
     /// The bytes are no script: their first fault, and its line, counted from 1.
     BadScript { line: u64, kind: ScriptKind },
@@ -34,15 +40,10 @@ pub enum Status {
     TooLong,
 }
 
-fn is_order(words: &[Txt]) -> bool
-    ensures { result ≡ is_order words.now }
-{
-    words.len() == 1 && words[0].is(b"order")
-}
-
-/// Does all that the program does in the form `order`: reads a script from the source, at most 8,388,608 bytes of it,
-/// runs it and writes its transcript to the sink. It always returns. The form of scripts and of transcripts is this
-/// project's own; what statements mean is as in the Data Warehousing Guide.
+/// Does all that the program does so far, and always returns. Under `order` it reads a script from the source, at most
+/// 8,388,608 bytes of it, runs it and writes its transcript to the sink. Under `gen N` it makes the script with N sales,
+/// runs it and writes its summary; then it reads nothing. The words, and the form of scripts, transcripts and summaries, are
+/// this project's own; what statements mean is as in the Data Warehousing Guide.
 ///
 /// `reads` has a counter for the setup and one for each of 64 sessions; each rises by the base rows that the replies to
 /// its session say were read.
@@ -56,13 +57,55 @@ pub fn top_order<S: Source, K: Sink, L>(
     requires counters { length reads.old ≡ 65 }
     requires low { All (λ n. n ≤ 2 ^ 62) reads.old }
 
-    // The sink holds what it held, and then the transcript of the script that the source's bytes are.
+    // The sink holds what it held, and then what the form writes: under `order` the transcript of the script that the
+    // source's bytes are, under `gen` the summary, whatever the source is.
+    ensures done { result ≡ Status.Done → IfSome (built_form words.now) (λ f. IfInput f (S.left source.old) (λ bytes. IsSome (script_of_form f bytes)
+        × Appends (K.holds sink.old) (K.holds sink.new) (text_of_form f bytes))) }
+    ensures end { result ≡ Status.Done → built_form words.now ≡ Some Ordering → IsAtEnd (S.left source.new) }
+    ensures no_source { (n : ℕ) → built_form words.now ≡ Some (Generating n) → source.new ≡ source.old }
+
+    // Each answer but Done has its cause. Where the words are no form that runs, nothing is begun; that is told by
+    // BadWords, unless memory runs out before it is known.
+    ensures bad_words { result ≡ Status.BadWords → built_form words.now ≡ None }
+    ensures unbegun { built_form words.now ≡ None → IsUnbegun result }
+    ensures untouched { built_form words.now ≡ None → source.new ≡ source.old }
+    ensures unraised { built_form words.now ≡ None → reads.new ≡ reads.old }
+    ensures of_source { IsOfSource result → built_form words.now ≡ Some Ordering }
+    ensures read_fault { result ≡ Status.ReadFault → Rose (S.faults source.old) (S.faults source.new) }
+    ensures too_long { result ≡ Status.TooLong → IfSome (S.left source.old) (λ bytes. most_bytes < length bytes) }
+    ensures short { IsOfBytes result → IfSome (built_form words.now) (λ f. IfInput f (S.left source.old) (λ bytes. length bytes ≤ most_bytes)) }
+    ensures bad_script { IfBadScript result (λ line kind. IfSome (S.left source.old) (λ bytes. built_script bytes false ≡ Err (record { line = line; kind = kind }))) }
+    ensures write_fault { result ≡ Status.WriteFault → Rose (K.faults sink.old) (K.faults sink.new) }
+    ensures part { result ≡ Status.WriteFault → IfSome (built_form words.now) (λ f. IfInput f (S.left source.old) (λ bytes. IsSome (script_of_form f bytes)
+        × AppendsPart (K.holds sink.old) (K.holds sink.new) (text_of_form f bytes))) }
+
+    // Nothing is written and no fault is passed over otherwise.
+    ensures silent { IsSilent result → sink.new ≡ sink.old }
+
+    // The counters rise by the rows that the replies say were read.
+    ensures counted { IsWritten result → IfSome (built_form words.now) (λ f. IfInput f (S.left source.old) (λ bytes. Counted reads.old reads.new (script_of_form f bytes))) }
+    ensures uncounted { IsUnread result → reads.new ≡ reads.old }
+{
+    match form(alloc, words.as_slice()) {
+        Ok(Some(Words::Order)) => order(alloc, source, sink, reads),
+        Ok(Some(Words::Generate(sales))) => generate(alloc, sales, sink, reads),
+        Ok(None) => Status::BadWords,
+        Err(AllocError) => Status::NoMemory,
+    }
+}
+
+/// The form `order`: reads a script, runs it and writes its transcript.
+fn order<S: Source, K: Sink, L>(
+    alloc: Global,
+    source: &mut S,
+    sink: &mut K,
+    reads: &mut [Reads<L>],
+) -> Status
+    requires counters { length reads.old ≡ 65 }
+    ensures begun { IsBegun result }
     ensures done { result ≡ Status.Done → IfSome (S.left source.old) (λ bytes. IsSome (script_read bytes)
         × Appends (K.holds sink.old) (K.holds sink.new) (output_of (script_read bytes))) }
     ensures end { result ≡ Status.Done → IsAtEnd (S.left source.new) }
-
-    // Each answer but Done has its cause.
-    ensures bad_words { (result ≡ Status.BadWords) ↔ (is_order words.now ≡ false) }
     ensures read_fault { result ≡ Status.ReadFault → Rose (S.faults source.old) (S.faults source.new) }
     ensures too_long { result ≡ Status.TooLong → IfSome (S.left source.old) (λ bytes. most_bytes < length bytes) }
     ensures short { IsOfBytes result → IfSome (S.left source.old) (λ bytes. length bytes ≤ most_bytes) }
@@ -70,17 +113,10 @@ pub fn top_order<S: Source, K: Sink, L>(
     ensures write_fault { result ≡ Status.WriteFault → Rose (K.faults sink.old) (K.faults sink.new) }
     ensures part { result ≡ Status.WriteFault → IfSome (S.left source.old) (λ bytes. IsSome (script_read bytes)
         × AppendsPart (K.holds sink.old) (K.holds sink.new) (output_of (script_read bytes))) }
-
-    // Nothing is written and no fault is passed over otherwise.
     ensures silent { IsSilent result → sink.new ≡ sink.old }
-
-    // The counters rise by the rows that the replies say were read.
     ensures counted { IsWritten result → IfSome (S.left source.old) (λ bytes. Counted reads.old reads.new (script_read bytes)) }
     ensures uncounted { IsUnread result → reads.new ≡ reads.old }
 {
-    if !is_order(words.as_slice()) {
-        return Status::BadWords;
-    }
     let script = match read_input(alloc, source) {
         Ok(script) => script,
         Err(InputFault::Memory) => return Status::NoMemory,
@@ -95,4 +131,23 @@ pub fn top_order<S: Source, K: Sink, L>(
         Ok(()) => Status::Done,
         Err(_) => Status::WriteFault,
     }
+}
+
+/// The form `gen N`: makes the script with so many sales, runs it and writes its summary.
+fn generate<K: Sink, L>(alloc: Global, sales: u32, sink: &mut K, reads: &mut [Reads<L>]) -> Status
+    requires counters { length reads.old ≡ 65 }
+    ensures own { IsOfGen result }
+    ensures done { result ≡ Status.Done → Appends (K.holds sink.old) (K.holds sink.new) (lines_text (summary sales)) }
+    ensures write_fault { result ≡ Status.WriteFault → Rose (K.faults sink.old) (K.faults sink.new) }
+    ensures part { result ≡ Status.WriteFault → AppendsPart (K.holds sink.old) (K.holds sink.new) (lines_text (summary sales)) }
+    ensures silent { IsSilent result → sink.new ≡ sink.old }
+    ensures counted { IsWritten result → Counted reads.old reads.new (Some (generated sales)) }
+{
+    let Ok(text) = summary(alloc, sales, reads) else {
+        return Status::NoMemory;
+    };
+    let Ok(()) = write_all(sink, text.as_slice()) else {
+        return Status::WriteFault;
+    };
+    Status::Done
 }

@@ -1,8 +1,5 @@
-use Rattle.wh_top.proofs.Outputs.{counted_where}
+use Rattle.std.proofs.Common.{rules}
 use Rattle.wh_top.proofs.top.top_order.Goals as goal
 
-pub returns-in-Ok-write_all-clause-counted : goal.returns-in-Ok-write_all-clause-counted
-returns-in-Ok-write_all-clause-counted g c written = counted_where (g.S.Source.left c.args.source.now) c.in-Ok.script c.args.reads.now c.output.new.reads c.in-Ok.ensures.script c.in-Ok-output.ensures.counted
-
-pub returns-clause-counted : goal.returns-clause-counted
-returns-clause-counted g c written = counted_where (g.S.Source.left c.args.source.now) c.in-Ok.script c.args.reads.now c.output.new.reads c.in-Ok.ensures.script c.in-Ok-output.ensures.counted
+pub returns-in-Ok-Some-Generate-clause-part : goal.returns-in-Ok-Some-Generate-clause-part
+returns-in-Ok-Some-Generate-clause-part g c fault = let part = c.generate.ensures.part fault in search (rules, part)
