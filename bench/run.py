@@ -154,6 +154,52 @@ def snapshots(rows: int) -> Iterator[str]:
         yield "SELECT COUNT(*) FROM SMALL"
 
 
+DIMENSION_ROWS = 1000
+
+
+def star_filled(rows: int) -> Iterator[str]:
+    """A fact table with three dimensions of 1,000 rows each. The facts have NULLs: in each 97th row no store, in each 50th no
+    amount."""
+    yield "CREATE TABLE PRODUCT (ID NUMBER PRIMARY KEY, BRAND VARCHAR2(10), CLASS NUMBER)"
+    yield "CREATE TABLE STORE (ID NUMBER PRIMARY KEY, CITY VARCHAR2(10), REGION NUMBER)"
+    yield "CREATE TABLE DAY (ID NUMBER PRIMARY KEY, MONTH NUMBER, YEAR NUMBER)"
+    yield "CREATE TABLE SALE (PRODUCT NUMBER, STORE NUMBER, DAY NUMBER, PIECES NUMBER, PRICE NUMBER)"
+    ids = range(DIMENSION_ROWS)
+    yield "INSERT INTO PRODUCT VALUES " + ", ".join(f"({it}, 'B{it % 40:02}', {it % 7})" for it in ids)
+    yield "INSERT INTO STORE VALUES " + ", ".join(f"({it}, 'C{it % 100:02}', {it % 5})" for it in ids)
+    yield "INSERT INTO DAY VALUES " + ", ".join(f"({it}, {it // 30}, {it // 360})" for it in ids)
+    for first in range(0, rows, 1000):
+        each = (
+            f"({it * 7919 % 1000}, {'NULL' if it % 97 == 0 else it * 31 % 1000}, {it * 13 % 1000}, {it % 9 + 1}, "
+            f"{'NULL' if it % 50 == 0 else it * 7919 % 10_007})"
+            for it in range(first, min(first + 1000, rows))
+        )
+        yield f"INSERT INTO SALE VALUES {', '.join(each)}"
+
+
+PRODUCT = "JOIN PRODUCT P ON S.PRODUCT = P.ID"
+STORE = "JOIN STORE T ON S.STORE = T.ID"
+DAY = "JOIN DAY D ON S.DAY = D.ID"
+STARS = [
+    f"SELECT P.BRAND, SUM(S.PRICE), COUNT(*) FROM SALE S {PRODUCT} GROUP BY P.BRAND",
+    f"SELECT T.CITY, COUNT(S.PRICE), MIN(S.PRICE), MAX(S.PRICE) FROM SALE S {STORE} GROUP BY T.CITY",
+    f"SELECT D.MONTH, SUM(S.PIECES) FROM SALE S {DAY} WHERE D.YEAR = 1 GROUP BY D.MONTH",
+    f"SELECT P.CLASS, T.REGION, SUM(S.PIECES * S.PRICE) FROM SALE S {PRODUCT} {STORE} GROUP BY P.CLASS, T.REGION",
+    f"SELECT D.YEAR, P.BRAND, COUNT(*) FROM SALE S {PRODUCT} {DAY} WHERE P.CLASS IN (1, 3) GROUP BY D.YEAR, P.BRAND",
+    f"SELECT T.CITY, SUM(S.PRICE) FROM SALE S {STORE} {DAY} WHERE D.MONTH BETWEEN 3 AND 8 GROUP BY T.CITY",
+    f"SELECT P.BRAND, T.REGION, D.YEAR, SUM(S.PRICE), COUNT(*) FROM SALE S {PRODUCT} {STORE} {DAY} GROUP BY P.BRAND, T.REGION, D.YEAR",
+    f"SELECT P.BRAND, COUNT(*) FROM SALE S {PRODUCT} WHERE S.PRICE IS NULL GROUP BY P.BRAND",
+    f"SELECT T.CITY, COUNT(*) FROM SALE S {STORE} WHERE S.PIECES > 4 AND T.REGION = 2 GROUP BY T.CITY HAVING COUNT(*) > 100",
+    f"SELECT D.MONTH, MAX(S.PRICE) FROM SALE S {PRODUCT} {STORE} {DAY} WHERE P.CLASS = 4 AND T.REGION <> 1 GROUP BY D.MONTH",
+]
+
+
+def stars(rows: int) -> Iterator[str]:
+    """Ten grouped joins with different conditions over it."""
+    yield from star_filled(rows)
+    yield from STARS
+
+
 # Most cases stand here twice, with ten times more rows, so that it is seen how the time grows.
 CASES = [
     Case("totals", 20_000, totals),
@@ -167,6 +213,8 @@ CASES = [
     Case("refresh", 100_000, refreshed, theirs=summarized),
     Case("keys", 30_000, keyed, theirs=keyed_theirs),
     Case("keys", 300_000, keyed, theirs=keyed_theirs),
+    Case("star", 20_000, stars),
+    Case("star", 200_000, stars),
     Case("snapshots", 20_000, snapshots, before=beside),
     Case("snapshots", 200_000, snapshots, before=beside),
 ]
@@ -361,24 +409,39 @@ def show(cells: tuple[str, ...]) -> None:
     print(f"{name:<12}{rows:>9}{numbers}", flush=True)
 
 
-# Reads all records, as the script's LOAD block has them.
-CSV_READER = "import csv, sys\nfor record in csv.reader(sys.stdin): pass"
-
-
-def measure_load(program: Path, folder: Path) -> None:
-    """A LOAD block of short lines against Python's csv module over the same lines. mviewdb reads the block and answers that
-    it doesn't run yet."""
-    lines, script, output = (folder / name for name in ("lines.csv", "load.sql", "load.out"))
-    text = "".join(f"{row * 7919 % 100_003},G{row * 31 % 1000:03}\n" for row in range(LOAD_LINES))
+def measure_load(program: Path, sqlite: str, folder: Path) -> None:
+    """A LOAD of short lines into an empty table, against SQLite's `.import` of a file with the same lines; then a query that
+    both have to answer alike."""
+    lines, script, output, theirs, rows = (folder / name for name in ("lines.csv", "load.sql", "load.out", "import.sql", "import.out"))
+    text = "".join(f"{row * 7919 % 100_003},G{row * 31 % 1000:03},{row}\n" for row in range(LOAD_LINES))
     lines.write_text(text, encoding="utf-8")
-    script.write_text(f"@setup\n@load SALES\n{text}@endload\n@end\n", encoding="utf-8")
-    mine = runs([str(program), "order"], script, output, wanted=5)
-    other = runs([sys.executable, "-c", CSV_READER], lines, output)
-    if mine[-1].status != 5 or mine[-1].errors != "mviewdb: line 2: NotBuilt":
-        print(f"load: mviewdb ended with status {mine[-1].status}: {mine[-1].errors}")
+    query = "SELECT COUNT(*), SUM(A), MIN(G), MAX(B) FROM SALES;\n"
+    script.write_text(f"@setup\nCREATE TABLE SALES (A NUMBER, G VARCHAR2(4), B NUMBER);\n@load SALES\n{text}@endload\n{query}@end\n", encoding="utf-8")
+    theirs.write_text(f"CREATE TABLE SALES (A INTEGER, G TEXT, B INTEGER);\n.import --csv {lines} SALES\n{query}", encoding="utf-8")
+    mine = runs([str(program), "order"], script, output)
+    other = runs([sqlite, "-batch", "-list", "-separator", "|", ":memory:"], theirs, rows)
+    if mine[-1].status != 0 or not answers_agree(output, rows):
+        print(f"load: mviewdb ended with status {mine[-1].status}, or the answers differ: {mine[-1].errors}")
         return
-    seconds, others = median_of(mine), median_of(other)
-    print(f"load of {LOAD_LINES:,} lines: mviewdb {seconds:.3f} s, Python's csv {others:.3f} s, ratio {seconds / others:.1f}")
+    found = Times(median_of(mine), median_of(other), max(it.peak for it in mine), script.stat().st_size)
+    show(cells(Case("load", LOAD_LINES, totals), found))
+
+
+GENERATED = (10_000, 100_000)
+
+
+def measure_gen(program: Path, folder: Path) -> None:
+    """`gen N` for two N, which makes its script and runs it; there is nothing to compare it with."""
+    took = []
+    for count in GENERATED:
+        found = runs([str(program), "gen", str(count)], Path(os.devnull), folder / "gen.out")
+        if found[-1].status != 0:
+            print(f"gen {count}: mviewdb ended with status {found[-1].status}: {found[-1].errors}")
+            return
+        took.append(median_of(found))
+        print(f"gen {count:,}: {took[-1]:.3f} s, {max(it.peak for it in found) / MEGABYTE:.1f} MB", flush=True)
+    growth = GENERATED[1] / GENERATED[0]
+    print(f"gen: {growth:.0f} times the rows take {took[1] / took[0]:.1f} times as long, {took[1] / took[0] / growth:.2f} for one", flush=True)
 
 
 def built_program() -> Path:
@@ -413,7 +476,9 @@ def main() -> int:
                 show_growth(last[0], case, last[1], found)
             last = (case, found)
         if given.case is None or "load" in given.case:
-            worker.submit(measure_load, program, Path(folder)).result()
+            worker.submit(measure_load, program, sqlite, Path(folder)).result()
+        if given.case is None or "gen" in given.case:
+            worker.submit(measure_gen, program, Path(folder)).result()
         floor = run(["true"], Path(os.devnull), Path(os.devnull)).peak
     version = subprocess.run([sqlite, "--version"], stdout=subprocess.PIPE, text=True, check=True).stdout.split()[0]
     print(f"\nMedian of {RUNS} runs; SQLite {version}. Memory below {floor / MEGABYTE:.1f} MB isn't seen.")

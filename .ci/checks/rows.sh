@@ -1,6 +1,6 @@
 #!/usr/bin/env bash
 # The worked rows, where they lie beside the repository: each script must answer as its row says.
-stage=3 # the rows that can be run by now
+stage=4 # the rows that can be run by now
 cd "$(dirname "${BASH_SOURCE[0]}")/../.." || exit 1
 rows=../shared/rows/run_rows.py
 if [ ! -e "$rows" ]; then
