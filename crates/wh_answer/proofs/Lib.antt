@@ -4,4 +4,3 @@ pub mod Steps
 pub mod Views
 pub mod Chosen
 pub mod Named
-pub mod Samples

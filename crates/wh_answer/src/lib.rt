@@ -6,8 +6,6 @@ pub mod laws;
 mod replies;
 mod selecting;
 mod showing;
-#[cfg(test)]
-mod tests;
 
 pub use computing::{Computed, compute};
 pub use selecting::select;

@@ -15,8 +15,6 @@ pub mod seq;
 pub mod shared;
 pub mod statements;
 pub mod tables;
-#[cfg(test)]
-mod tests;
 pub mod txt;
 pub mod values;
 pub mod views;

@@ -11,4 +11,3 @@ mod Final
 mod Ending
 mod Lifting
 mod Running
-mod Filled

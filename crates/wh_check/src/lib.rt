@@ -9,5 +9,3 @@ mod statement;
 
 pub use block::{Checked, check_block};
 
-#[cfg(test)]
-mod tests;

@@ -9,7 +9,5 @@ pub mod refreshes;
 pub mod sessions;
 pub mod statements;
 pub mod tables;
-#[cfg(test)]
-mod tests;
 pub mod views;
 pub mod words;

@@ -7,8 +7,6 @@ mod foreign;
 mod keys;
 mod ranges;
 mod sorts;
-#[cfg(test)]
-mod tests;
 
 pub use define::{Defined, define_table};
 pub use ranges::{bound_refusal, new_bound};

@@ -3,6 +3,5 @@ pub mod Filters
 pub mod Ordered
 pub mod Placed
 pub mod Resolved
-pub mod Samples
 pub mod Turns
 pub mod Unique

@@ -7,5 +7,3 @@ mod plain;
 
 pub use evaluation::{evaluate, evaluate_view};
 
-#[cfg(test)]
-mod tests;

@@ -11,5 +11,3 @@ mod texts;
 pub use laws::generated_script_runs;
 pub use script::generated;
 
-#[cfg(test)]
-mod tests;

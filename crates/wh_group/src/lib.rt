@@ -17,5 +17,3 @@ pub use order::{sort_entries, sort_rows};
 pub use small::{are_small_tuples, has_small_aggs};
 pub use tally::{Summed, Tally};
 
-#[cfg(test)]
-mod tests;

@@ -6,5 +6,3 @@ pub mod laws;
 
 pub use image::Image;
 
-#[cfg(test)]
-mod tests;

@@ -1,4 +1,3 @@
-pub mod Absent
 pub mod Looked
 pub mod Numbered
 pub mod Placed

@@ -8,5 +8,3 @@ mod marks;
 pub use child_index::ChildIndex;
 pub use key_index::KeyIndex;
 
-#[cfg(test)]
-mod tests;

@@ -13,5 +13,3 @@ mod was;
 pub use entry::{Entry, entry_of};
 pub use keys::Keys;
 
-#[cfg(test)]
-mod tests;

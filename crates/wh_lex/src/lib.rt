@@ -3,6 +3,4 @@
 
 pub mod front;
 pub mod lex;
-#[cfg(test)]
-mod tests;
 pub mod token;

@@ -3,7 +3,5 @@
 
 mod fields;
 mod rows;
-#[cfg(test)]
-mod tests;
 
 pub use rows::rows_loaded;

@@ -8,5 +8,3 @@ mod order;
 pub use meaning::laws;
 pub use order::order_of;
 
-#[cfg(test)]
-mod tests;

@@ -7,5 +7,3 @@ mod layout;
 mod parts;
 mod pieces;
 pub mod query;
-#[cfg(test)]
-mod tests;

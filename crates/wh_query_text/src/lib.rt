@@ -7,5 +7,3 @@ pub mod query;
 pub mod rule;
 pub mod rules;
 pub mod spelling;
-#[cfg(test)]
-mod tests;

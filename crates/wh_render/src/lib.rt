@@ -7,8 +7,6 @@ mod lines;
 mod plans;
 mod refusals;
 mod replies;
-#[cfg(test)]
-mod tests;
 mod words;
 
 pub use replies::{journal_text, push_journal, push_reply, reply_text};

@@ -10,8 +10,6 @@ mod parts;
 mod query;
 mod sources;
 mod star;
-#[cfg(test)]
-mod tests;
 mod unknown;
 
 pub use kinds::{Sort, agrees, any_differs, literal_sort, part_sort, printed_part};

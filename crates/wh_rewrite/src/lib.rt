@@ -4,8 +4,6 @@
 mod choosing;
 mod full_text;
 mod staleness;
-#[cfg(test)]
-mod tests;
 
 pub use choosing::choose;
 pub use full_text::all_tokens;

@@ -15,8 +15,4 @@ pub mod order;
 mod pieces;
 pub mod reading;
 pub mod script;
-#[cfg(test)]
-mod script_tests;
-#[cfg(test)]
-mod tests;
 pub mod text;

@@ -12,5 +12,3 @@ pub use meaning::laws;
 pub use segment::Segment;
 pub use version::Version;
 
-#[cfg(test)]
-mod tests;

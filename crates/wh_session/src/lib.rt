@@ -10,5 +10,3 @@ mod telling;
 pub use session::Session;
 pub use tally::Tally;
 
-#[cfg(test)]
-mod tests;

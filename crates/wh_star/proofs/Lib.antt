@@ -9,7 +9,6 @@ pub mod Scans
 pub mod Admitted
 pub mod Joins
 pub mod Meant
-pub mod Samples
 pub mod Spread
 pub mod Within
 pub mod Pruned

@@ -13,5 +13,3 @@ pub use joining::joined;
 pub use pruning::{misses, query_range};
 pub use range::Range;
 
-#[cfg(test)]
-mod tests;

@@ -11,5 +11,3 @@ pub use meaning::{laws, tables_law};
 pub use table::Table;
 pub use tables::Tables;
 
-#[cfg(test)]
-mod tests;

@@ -10,5 +10,3 @@ pub use cell::Cell;
 pub use columns::{cell_in, cell_of, condition_holds, edge_holds, expr_cell, is_one_of};
 pub use tuples::{TupleRow, Tuples};
 
-#[cfg(test)]
-mod tests;

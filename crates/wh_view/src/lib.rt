@@ -7,5 +7,3 @@ mod views;
 pub use kept::KeptView;
 pub use views::Views;
 
-#[cfg(test)]
-mod tests;

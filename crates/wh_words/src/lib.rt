@@ -8,5 +8,3 @@ mod words;
 
 pub use words::{Words, form};
 
-#[cfg(test)]
-mod tests;
