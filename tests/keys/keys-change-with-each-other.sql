@@ -1,0 +1,22 @@
+@setup
+CREATE TABLE T (K NUMBER PRIMARY KEY, J NUMBER UNIQUE);
+INSERT INTO T VALUES (1, 2), (2, 1), (3, 3);
+-- Keys are asked over the rows as a statement leaves them.
+UPDATE T SET K = K + 1;
+UPDATE T SET K = J + 0, J = K + 0;
+SELECT ROWID, K, J FROM T;
+UPDATE T SET K = 2 WHERE J >= 3;
+UPDATE T SET K = K + 1 WHERE K = 1;
+-- After a refusal the keys are as they were.
+INSERT INTO T VALUES (4, 5);
+INSERT INTO T VALUES (1, 9);
+INSERT INTO T VALUES (9, 4);
+BEGIN;
+UPDATE T SET K = K + 10;
+INSERT INTO T VALUES (1, 10);
+INSERT INTO T VALUES (11, 11);
+COMMIT;
+INSERT INTO T VALUES (12, 12);
+INSERT INTO T VALUES (1, 13);
+SELECT ROWID, K, J FROM T;
+@end

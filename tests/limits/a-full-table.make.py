@@ -1,0 +1,10 @@
+"""A table with as many rows as it holds, 262,144. It takes another one where one goes in the same block before it."""
+print("@setup\nCREATE TABLE T (N NUMBER PRIMARY KEY);\n@load T")
+print("\n".join(map(str, range(262144))) + "\n@endload")
+print("INSERT INTO T VALUES (262144);")
+print("BEGIN; INSERT INTO T VALUES (262144); DELETE FROM T WHERE N = 7; COMMIT;")
+print("BEGIN; DELETE FROM T WHERE N = 7; INSERT INTO T VALUES (262144); COMMIT;")
+print("INSERT INTO T VALUES (262144);")
+print("INSERT INTO T VALUES (7);")
+print("SELECT COUNT(*), SUM(N), MAX(N), MAX(ROWID) FROM T;")
+print("@end")

@@ -1,0 +1,10 @@
+"""1,048,575 row versions are kept: one more fits, and in a block the second one more doesn't. A deleted row stays kept."""
+print("@setup\nCREATE TABLE T (A NUMBER);\nCREATE TABLE U (A NUMBER);\nCREATE TABLE W (A NUMBER);\n@load T")
+print("1\n" * 262143 + "@endload")
+print("UPDATE T SET A = 2;\n" * 3 + "INSERT INTO U VALUES (1), (2), (3);")
+print("BEGIN; INSERT INTO U VALUES (4); INSERT INTO W VALUES (4); COMMIT;")
+print("BEGIN; INSERT INTO U VALUES (4); UPDATE U SET A = 5 WHERE A = 4; UPDATE U SET A = 6 WHERE A = 5; COMMIT;")
+print("DELETE FROM U WHERE A = 6;")
+print("INSERT INTO W VALUES (4);")
+print("SELECT A FROM U;")
+print("@end")

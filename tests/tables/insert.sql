@@ -1,0 +1,7 @@
+@setup
+CREATE TABLE T (A NUMBER, B VARCHAR2(4), C NUMBER NOT NULL);
+INSERT INTO T VALUES (1, 'x', 10), (2, NULL, 20);
+INSERT INTO T (C, A) VALUES (30, 3);
+insert into t (c) values (40), (50);
+SELECT ROWID, A, B, C FROM T;
+@end

@@ -1,0 +1,26 @@
+@setup
+CREATE TABLE T (A NUMBER, B NUMBER, X VARCHAR2(3));
+INSERT INTO T VALUES (1, 1, 'a'), (2, 3, 'b'), (3, 2, 'c'), (NULL, 1, NULL), (5, NULL, '9'), (NULL, NULL, '10');
+UPDATE T SET A = A + 0 WHERE A = 2;
+UPDATE T SET A = A + 0 WHERE A <> 2;
+UPDATE T SET A = A + 0 WHERE A != 2;
+UPDATE T SET A = A + 0 WHERE A < 3;
+UPDATE T SET A = A + 0 WHERE A <= 3;
+UPDATE T SET A = A + 0 WHERE A > 1;
+UPDATE T SET A = A + 0 WHERE A >= 5;
+UPDATE T SET A = A + 0 WHERE A > -1;
+UPDATE T SET A = A + 0 WHERE A BETWEEN 2 AND 3;
+UPDATE T SET A = A + 0 WHERE A BETWEEN 3 AND 2;
+UPDATE T SET A = A + 0 WHERE A IN (1, 5, 9);
+UPDATE T SET A = A + 0 WHERE A IS NULL;
+UPDATE T SET A = A + 0 WHERE A IS NOT NULL;
+UPDATE T SET A = A + 0 WHERE A = B;
+UPDATE T SET A = A + 0 WHERE A = 1 AND B = 1;
+UPDATE T SET A = A + 0 WHERE A = 1 AND B = 2;
+-- Texts go by their bytes. A text of length zero is NULL, and a comparison with NULL isn't true.
+UPDATE T SET A = A + 0 WHERE X > '10';
+UPDATE T SET A = A + 0 WHERE X = '10';
+UPDATE T SET A = A + 0 WHERE X <> 'a';
+UPDATE T SET A = A + 0 WHERE X = '';
+UPDATE T SET A = A + 0 WHERE X IN ('a', '');
+@end

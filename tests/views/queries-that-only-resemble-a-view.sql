@@ -1,0 +1,10 @@
+@setup
+-- A view could answer these too. So far they are answered from the base rows.
+CREATE TABLE T (G VARCHAR2(4), A NUMBER);
+INSERT INTO T VALUES ('P', 1), ('P', 2), ('Q', 3);
+CREATE MATERIALIZED VIEW V ENABLE QUERY REWRITE AS SELECT G, SUM(A), COUNT(*) FROM T GROUP BY G;
+SELECT SUM(A) FROM T GROUP BY G;
+SELECT T.G, SUM(A), COUNT(*) FROM T GROUP BY G;
+SELECT G, SUM(A) S, COUNT(*) FROM T GROUP BY G;
+SELECT COUNT(*) FROM T;
+@end
