@@ -85,10 +85,8 @@ def unescaped(text):
 
 def case_of(name, line):
     """The test of a line `STATUS TEXT [WORDS] <- INPUT`, of which TEXT and [WORDS] may be left out."""
-    wanted, found, given = line.partition("<- ")
-    if not found:
-        wanted, given = line.removesuffix("<-"), ""
-    wanted = wanted.strip()
+    wanted, _, given = line.partition("<-")
+    wanted, given = wanted.strip(), given.removeprefix(" ")
     words = ["order"]
     if wanted.endswith("]"):
         wanted, _, shell = wanted[:-1].partition("[")
@@ -116,38 +114,39 @@ def cases_in(path, name):
 
 
 def tests_in(folder):
-    """All tests of a folder. A file that belongs to none is one that isn't found."""
-    files = set(os.listdir(folder))
+    """All tests of a folder. A file that is no part of a test stops the run, so that none is passed over."""
     topic = os.path.basename(folder)
-    names = {}
-    for file in sorted(files):
+    ends_of = {}
+    for file in os.listdir(folder):
         end = next((end for end in ENDS if file.endswith(end)), None)
         if end is None:
             sys.exit("tests: %s/%s is no part of a test" % (topic, file))
-        names.setdefault(file[:-len(end)], set()).add(end)
-    for stem, ends in sorted(names.items()):
+        ends_of.setdefault(file[:-len(end)], set()).add(end)
+    for stem, ends in sorted(ends_of.items()):
         name = "%s/%s" % (topic, stem)
         path = os.path.join(folder, stem)
-        if ".cases" in ends:
+        if ends == {".cases"}:
             yield from cases_in(path + ".cases", name)
-            ends = ends - {".cases"}
-            if not ends:
-                continue
-        if len(ends.intersection(INPUTS)) != 1:
+        elif len(ends.intersection(INPUTS)) == 1:
+            yield test_at(path, name, ends)
+        else:
             sys.exit("tests: %s has no input, or two" % name)
-        test = Test(
-            name,
-            read(path + ".words", b"order").decode().split(),
-            int(read(path + ".status", b"0")),
-            read(path + ".out", b""),
-            read(path + ".err", b""),
-            read(path + ".sql", b""),
-        )
-        if ".make.py" in ends:
-            test.make = path + ".make.py"
-        test.source = read(path + ".from", b"").decode().strip()
-        test.sink = read(path + ".to", b"").decode().strip()
-        yield test
+
+
+def test_at(path, name, ends):
+    test = Test(
+        name,
+        read(path + ".words", b"order").decode().split(),
+        int(read(path + ".status", b"0")),
+        read(path + ".out", b""),
+        read(path + ".err", b""),
+        read(path + ".sql", b""),
+    )
+    if ".make.py" in ends:
+        test.make = path + ".make.py"
+    test.source = read(path + ".from", b"").decode().strip()
+    test.sink = read(path + ".to", b"").decode().strip()
+    return test
 
 
 def all_tests():
