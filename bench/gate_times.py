@@ -11,6 +11,7 @@ processes four times a second, and adds up the processor time that each had when
 ended costs up to a quarter of a second more than is told. Memory is the most that one process held.
 """
 import argparse
+import glob
 import os
 import re
 import subprocess
@@ -31,7 +32,8 @@ class Process:
 
     crate: str
     kind: str
-    is_edit: bool
+    # the edit's place among those of its crate, by their names
+    edit: int | None
     seconds: float = 0.0
     memory: int = 0
 
@@ -89,8 +91,9 @@ def told_by(number):
     crate = words[words.index("--crate-name") + 1]
     if "rt-edit-" in os.readlink(f"/proc/{number}/cwd"):
         over = words[words.index("--incremental") + 1] if "--incremental" in words else ""
-        return Process(crate, "edits", not re.search(r"/seed$", over))
-    return Process(crate, "tests" if "--test" in words else "proof", False)
+        number = over.rpartition("/")[2]
+        return Process(crate, "edits", int(number) if number.isdigit() else None)
+    return Process(crate, "tests" if "--test" in words else "proof", None)
 
 
 def table(watch, of_clock):
@@ -99,7 +102,7 @@ def table(watch, of_clock):
     for it in watch.seen.values():
         seconds[it.crate, it.kind] += it.seconds
         memory[it.crate] = max(memory[it.crate], it.memory)
-        tried[it.crate] += it.is_edit
+        tried[it.crate] += it.edit is not None
     total = {crate: sum(seconds[crate, kind] for kind in KINDS) for crate in memory}
     rows = ["| Crate | Proof, s | Tests, s | Edits | Edits, s | All, s | Memory, MB |", "|---|---|---|---|---|---|---|"]
     for crate in sorted(total, key=lambda it: -total[it]):
@@ -107,9 +110,21 @@ def table(watch, of_clock):
         rows.append(f"| `{crate}` | {proof} | {tests} | {tried[crate]} | {edits} | {round(total[crate])} | {memory[crate] >> 20} |")
     sums = [round(sum(seconds[crate, kind] for crate in total)) for kind in KINDS]
     rows.append(f"| all | {sums[0]} | {sums[1]} | {sum(tried.values())} | {sums[2]} | {sum(sums)} | {max(memory.values(), default=0) >> 20} |")
+    rows += ["", "The dearest edits:", "", *dearest_edits(watch)]
     rows.append("")
     rows.append(f"Of the clock: {of_clock / 60:.1f} min. Of the processors: {sum(sums) / 60:.1f} min.")
     return "\n".join(rows)
+
+
+def dearest_edits(watch, most=20):
+    """Returns a line for each of the dearest edits. Over a crate's only edit no number is told, and it isn't among them."""
+    edits = sorted((it for it in watch.seen.values() if it.edit is not None), key=lambda it: -it.seconds)
+    lines = []
+    for it in edits[:most]:
+        names = sorted(os.path.basename(path) for path in glob.glob(f"crates/{it.crate}/must-fail/*.edit"))
+        name = names[it.edit] if it.edit < len(names) else it.edit
+        lines.append(f"- `{it.crate}` {name}: {round(it.seconds)} s")
+    return lines
 
 
 def main():

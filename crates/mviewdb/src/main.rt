@@ -9,6 +9,7 @@ ghost use Rattle.std.specs.Prelude.{◌≡◌, ◌≤◌, ◌^◌, length, All, 
 
 use std::alloc::{AllocError, Global};
 use std::env;
+use std::io::ErrorKind;
 use std::process::ExitCode;
 use std::rt::Env;
 use wh_base::reads::Reads;
@@ -37,12 +38,14 @@ fn counters(alloc: Global) -> Result<Vec<Reads<Mark>>, AllocError>
     Ok(reads)
 }
 
-/// The words behind the program's name; none where the system doesn't tell them. An error says that memory ran out.
+/// The words behind the program's name; none where one isn't UTF-8. An error says that memory ran out.
 fn words<R: Env + AllocGlobal>(rt: &R) -> Result<Option<Seq<Txt>>, AllocError> {
-    let mut words = Seq::new(rt.alloc());
-    let Ok(args) = env::args(rt) else {
-        return Ok(None);
+    let args = match env::args(rt) {
+        Ok(args) => args,
+        Err(error) if error.kind() == ErrorKind::OutOfMemory => return Err(AllocError),
+        Err(_) => return Ok(None),
     };
+    let mut words = Seq::new(rt.alloc());
     for word in args.skip(1) {
         words.push(Txt::from_slice(rt.alloc(), word.as_bytes())?)?;
     }

@@ -8,4 +8,3 @@ mod rows;
 mod statement;
 
 pub use block::{Checked, check_block};
-

@@ -16,7 +16,12 @@ impl Rule for AskedQuery {
     fn read(parser: &mut Parser<'_>) -> Result<Asked, ParseFault> {
         let place = parser.place();
         let query = Select::read(parser)?;
-        let text = parser.spelled_since(&place)?;
-        Ok(Asked { query, text })
+        match parser.spelled_since(&place) {
+            Ok(text) => Ok(Asked { query, text }),
+            Err(fault) => {
+                drop(query);
+                Err(fault)
+            }
+        }
     }
 }

@@ -67,6 +67,7 @@ pub fn whole_statement(alloc: Global, tokens: &[Token]) -> Result<Statement, Par
     if is_at_end(&parser) {
         Ok(statement)
     } else {
+        drop(statement);
         Err(ParseFault::Syntax)
     }
 }

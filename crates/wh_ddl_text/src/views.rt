@@ -132,6 +132,7 @@ impl Rule for Definition {
         if asked.query.as_of.is_none() {
             Ok(asked)
         } else {
+            drop(asked);
             Err(ParseFault::Syntax)
         }
     }

@@ -6,4 +6,3 @@ mod phases;
 mod plain;
 
 pub use evaluation::{evaluate, evaluate_view};
-

@@ -10,4 +10,3 @@ mod texts;
 
 pub use laws::generated_script_runs;
 pub use script::generated;
-

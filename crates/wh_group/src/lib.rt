@@ -16,4 +16,3 @@ pub use merging::{group, merge};
 pub use order::{sort_entries, sort_rows};
 pub use small::{are_small_tuples, has_small_aggs};
 pub use tally::{Summed, Tally};
-

@@ -5,4 +5,3 @@ mod image;
 pub mod laws;
 
 pub use image::Image;
-

@@ -7,4 +7,3 @@ mod marks;
 
 pub use child_index::ChildIndex;
 pub use key_index::KeyIndex;
-

@@ -12,10 +12,10 @@ use Rattle.wh_keys.proofs.Undone.{set_twice, undone-push, undone_change}
 abbrev pub Log : Type 0
 Log = List (Was ℕ Value)
 
-pub change_noted : (log log1 log2 : Log) (m m1 m2 : Values) (place : ℕ) (v w : Option Value) → log1 ≡ log → m1 ≡ m → w ≡ map.get m place
+pub change_noted : (log log1 log2 : Log) (m m1 m2 : Values) (place : ℕ) (v w : Option Value) → log1 ≡ log → m1 ≡ m → w ≡ map.get m1 place
     → log2 ≡ log1 ++ record { key = place; value = w } ∷ [] → m2 ≡ set_to m1 place v → undone log2 m2 ≡ undone log m
 change_noted log log1 log2 m m1 m2 place v w same_log same_map had is_log is_map =
-    undone_change nat_cmp_total map.nat_cmp-IsAntisymmetric log log1 log2 m m1 m2 place place v w same_log same_map refl (had ∙ sym (ap (λ n. map.get n place) same_map)) is_log is_map
+    undone_change nat_cmp_total map.nat_cmp-IsAntisymmetric log log1 log2 m m1 m2 place place v w same_log same_map refl had is_log is_map
 
 pub last_undone : (log rest : Log) (m n : Values) (w : Was ℕ Value) → log ≡ rest ++ w ∷ [] → n ≡ set_to m w.key w.value → undone rest n ≡ undone log m
 last_undone log rest m n w is_log is_map =

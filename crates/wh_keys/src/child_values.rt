@@ -137,8 +137,8 @@ impl ChildValues {
         ensures same { self.new.before ≡ self.old.before }
         ensures ok { OnOk result (self.new.now ≡ set_to self.old.now place value) }
     {
-        let noted = copy_of(alloc, self.index.value(place))?;
         make_room(&mut self.index, &mut self.log)?;
+        let noted = copy_of(alloc, self.index.value(place))?;
         set_place(&mut self.index, place, value);
         self.log.push_reserved(Was {
             key: place,

@@ -144,8 +144,8 @@ impl KeyPlaces {
         ensures same { self.new.before ≡ self.old.before }
         ensures ok { OnOk result (self.new.now ≡ map.remove self.old.now key.now) }
     {
-        let noted = key.copied(alloc)?;
         make_room(&mut self.index, &mut self.log)?;
+        let noted = key.copied(alloc)?;
         let value = self.index.remove(key);
         self.log.push_reserved(Was { key: noted, value });
         Ok(())
@@ -156,9 +156,9 @@ impl KeyPlaces {
         ensures same { self.new.before ≡ self.old.before }
         ensures ok { OnOk result (self.new.now ≡ map.insert self.old.now key.now place) }
     {
+        make_room(&mut self.index, &mut self.log)?;
         let noted = key.copied(alloc)?;
         let kept = key.copied(alloc)?;
-        make_room(&mut self.index, &mut self.log)?;
         let value = self.index.find(key);
         self.log.push_reserved(Was { key: noted, value });
         self.index.insert(kept, place);

@@ -12,4 +12,3 @@ mod was;
 
 pub use entry::{Entry, entry_of};
 pub use keys::Keys;
-

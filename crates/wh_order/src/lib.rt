@@ -7,4 +7,3 @@ mod order;
 
 pub use meaning::laws;
 pub use order::order_of;
-

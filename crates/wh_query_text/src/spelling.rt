@@ -46,10 +46,19 @@ pub fn push_doubled(out: &mut Vec<u8>, text: &[u8]) -> Result<(), AllocError>
     ensures { OnOk result (out.new.items ≡ out.old.items ++ flat_map doubled text.now) }
 {
     for byte in text {
-        if *byte == b'\'' {
-            out.push(b'\'')?;
-        }
-        out.push(*byte)?;
+        push_byte(out, *byte)?;
     }
+    Ok(())
+}
+
+// The byte, or a quote twice.
+fn push_byte(out: &mut Vec<u8>, byte: u8) -> Result<(), AllocError>
+    ensures { OnOk result (out.new.items ≡ out.old.items ++ doubled byte) }
+{
+    if byte == b'\'' {
+        out.extend_from_slice(b"''")?;
+        return Ok(());
+    }
+    out.push(byte)?;
     Ok(())
 }

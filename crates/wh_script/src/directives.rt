@@ -94,9 +94,11 @@ impl Draft {
         ensures { Gives result (begin_session self line (session_number word.now)) }
     {
         let Some(session) = session_number(word) else {
+            drop(self);
             return Err(bad(line, ScriptKind::SessionNumber));
         };
         if !is_later(self.last_number(), session) {
+            drop(self);
             return Err(bad(line, ScriptKind::SessionNumber));
         }
         self.begin_section(alloc, session)
@@ -106,6 +108,7 @@ impl Draft {
         ensures { Gives result (take_directive self line defs.Setup) }
     {
         if !self.is_first() {
+            drop(self);
             return Err(bad(line, ScriptKind::Misplaced));
         }
         self.begin_section(alloc, 0)
@@ -115,10 +118,14 @@ impl Draft {
         ensures { Gives result (take_directive self line (defs.SessionAt word.now)) }
     {
         if !self.has_no_order() {
+            drop(self);
             return Err(bad(line, ScriptKind::Misplaced));
         }
         match self.open_fault() {
-            Some(open) => Err(ScriptFault::Bad(open)),
+            Some(open) => {
+                drop(self);
+                Err(ScriptFault::Bad(open))
+            }
             None => self.begin_session(alloc, line, word),
         }
     }

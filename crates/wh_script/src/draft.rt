@@ -162,10 +162,19 @@ impl Draft {
         match whole_statement(alloc, tokens) {
             Ok(statement) => match command_by(alloc, statement) {
                 Ok(command) => self.step_with(alloc, command),
-                Err(_) => Err(ScriptFault::Memory),
+                Err(_) => {
+                    drop(self);
+                    Err(ScriptFault::Memory)
+                }
             },
-            Err(ParseFault::Memory) => Err(ScriptFault::Memory),
-            Err(ParseFault::Syntax) => Err(bad(line, ScriptKind::Syntax)),
+            Err(ParseFault::Memory) => {
+                drop(self);
+                Err(ScriptFault::Memory)
+            }
+            Err(ParseFault::Syntax) => {
+                drop(self);
+                Err(bad(line, ScriptKind::Syntax))
+            }
         }
     }
 
@@ -179,6 +188,9 @@ impl Draft {
         ensures { Gives result (with_inner self block line statement) }
     {
         if !is_inner(&statement) {
+            drop(self);
+            drop(block);
+            drop(statement);
             return Err(bad(line, ScriptKind::Misplaced));
         }
         let OpenBlock {
@@ -187,7 +199,10 @@ impl Draft {
         } = block;
         match statements.push(statement) {
             Ok(()) => Ok(self.with_block(Some(OpenBlock { line, statements }))),
-            Err(_) => Err(ScriptFault::Memory),
+            Err(_) => {
+                drop(self);
+                Err(ScriptFault::Memory)
+            }
         }
     }
 
@@ -218,12 +233,22 @@ impl Draft {
             return self.close(alloc, block);
         }
         if is_only_word(alloc, tokens, b"BEGIN") {
+            drop(self);
+            drop(block);
             return Err(bad(line, ScriptKind::Misplaced));
         }
         match whole_statement(alloc, tokens) {
             Ok(statement) => self.with_inner(block, line, statement),
-            Err(ParseFault::Memory) => Err(ScriptFault::Memory),
-            Err(ParseFault::Syntax) => Err(bad(line, ScriptKind::Syntax)),
+            Err(ParseFault::Memory) => {
+                drop(self);
+                drop(block);
+                Err(ScriptFault::Memory)
+            }
+            Err(ParseFault::Syntax) => {
+                drop(self);
+                drop(block);
+                Err(bad(line, ScriptKind::Syntax))
+            }
         }
     }
 
@@ -280,6 +305,7 @@ impl Draft {
         ensures { Gives result (take_statement self line (stated statement.now)) }
     {
         if !self.in_section() {
+            drop(self);
             return Err(bad(line, ScriptKind::Misplaced));
         }
         if statement.closed.is_none() {
@@ -313,7 +339,7 @@ fn longer(
     match now {
         Some(section) => Ok(Some(section_with(alloc, section, command)?)),
         None => {
-            discard(command);
+            drop(command);
             Ok(None)
         }
     }
@@ -330,9 +356,6 @@ fn section_with(alloc: Global, section: Section, command: Command) -> Result<Sec
     commands.push(Shared::new(alloc, command)?)?;
     Ok(Section { session, commands })
 }
-
-// A command that no section takes.
-fn discard(_command: Command) {}
 
 fn block_fault(block: &Option<OpenBlock>) -> Option<BadScript>
     ensures { result ≡ option_map (λ b. bad b.line kinds.OpenBlock) block.now }

@@ -1,10 +1,10 @@
 -- An item put at a place of the list in chunks, and one more at its end.
-use Rattle.std.proofs.Common.{◌≡◌, ◌∙◌, sym, ap, subst, refl, List, [], ◌∷◌, ◌++◌, ◌+◌, ◌/◌, ◌%◌, ◌<◌, ◌≤◌, Some, ℕ, zero, suc, length, slice_get, slice_set, slice_index_or, nat_lt, true, false, append_assoc, length-append, arith}
+use Rattle.std.proofs.Common.{Result, Ok, Err, OnErr, take, drop, ◌≡◌, ◌∙◌, sym, ap, subst, refl, List, [], ◌∷◌, ◌++◌, ◌+◌, ◌/◌, ◌%◌, ◌<◌, ◌≤◌, Some, ℕ, zero, suc, length, slice_get, slice_set, slice_index_or, nat_lt, true, false, append_assoc, length-append, arith}
 use Rattle.std.proofs.lemmas.Bool.Decides.{Decides-ltb}
-use Rattle.std.proofs.lemmas.List.{set-append_left, length-set, length_push}
+use Rattle.std.proofs.lemmas.List.{set-get_or, set-append_left, length-set, length_push}
 use Rattle.std.proofs.lemmas.Option.{slice_get-get_or}
 use Rattle.wh_base.specs.Lists.{joined_lists}
-use Rattle.wh_segment.specs.Chunks.{AreChunks, last_has_room}
+use Rattle.wh_segment.specs.Chunks.{AreChunks, AreChunksOf, last_has_room}
 use Rattle.wh_segment.proofs.Joined.{chunk_is, chunk_there, full_set, get_left, get_right, joined_push, new_chunks, new_list, offset_is, offset_there, put_at_place}
 
 -- ---- where the last chunk is full
@@ -127,3 +127,50 @@ last_put_chunks cs l k p x m full h room past more =
     subst AreChunks (set_last cs l (slice_set l (p % 1024) x) (p / 1024) at) (full_set (cs ++ l ∷ []) (p / 1024) l (slice_set l (p % 1024) x) full (in_last cs l (p / 1024) at) as_long) in
     let less : length l < 1024 = less_last cs l room in
     subst (λ d. AreChunks (cs ++ d ∷ [])) (sym more) (grown cs (slice_set l (p % 1024) x) m set (omega (arith, less, as_long)))
+
+-- ---- the same by the words of the calls
+
+-- a slice written back into its vector
+front : {T : Type 0} (ys zs : List T) (n : ℕ) → n ≡ length ys → take n (ys ++ zs) ≡ ys
+front [] zs zero e = refl
+front [] zs (suc n) e = absurd (omega arith)
+front (y ∷ ys) zs zero e = absurd (omega arith)
+front (y ∷ ys) zs (suc n) e = ap (λ l. y ∷ l) (front ys zs n (omega arith))
+
+pub back_list : {T : Type 0} (cs ws ds : List (List T)) (n p : ℕ) (x m : T) → n ≡ length ds → ws ≡ cs → joined_lists ds ≡ slice_set (joined_lists ws) p x ++ m ∷ []
+    → joined_lists (take n (ds ++ drop (length ds) cs)) ≡ slice_set (joined_lists cs) p x ++ m ∷ []
+back_list cs ws ds n p x m long same put = ap joined_lists (front ds (drop (length ds) cs) n long) ∙ put ∙ ap (λ xs. slice_set (joined_lists xs) p x ++ m ∷ []) same
+
+pub back_full : {T : Type 0} (cs ds : List (List T)) (n : ℕ) → n ≡ length ds → AreChunks ds → AreChunks (take n (ds ++ drop (length ds) cs))
+back_full cs ds n long full = subst AreChunks (sym (front ds (drop (length ds) cs) n long)) full
+
+pub back_same : {T : Type 0} (cs ws ds : List (List T)) (n : ℕ) → n ≡ length ds → ws ≡ cs → ds ≡ ws → take n (ds ++ drop (length ds) cs) ≡ cs
+back_same cs ws ds n long same kept = front ds (drop (length ds) cs) n long ∙ kept ∙ same
+
+pub same_full : {T : Type 0} (cs ws : List (List T)) → ws ≡ cs → AreChunks cs → AreChunks ws
+same_full cs ws same full = subst AreChunks (sym same) full
+
+pub same_there : {T : Type 0} (cs ws : List (List T)) (p : ℕ) → ws ≡ cs → p < length (joined_lists cs) → p < length (joined_lists ws)
+same_there cs ws p same h = subst (λ xs. p < length (joined_lists xs)) (sym same) h
+
+-- one item put and one more, with the count
+pub counted_put : {T : Type 0} (count : ℕ) (cs ds : List (List T)) (p : ℕ) (x m : T) → AreChunksOf count cs → count < 4294967295 → joined_lists ds ≡ slice_set (joined_lists cs) p x ++ m ∷ [] → AreChunks ds
+    → AreChunksOf (count + 1) ds
+counted_put count cs ds p x m of less put full =
+    let sizes = ap length put in
+    let more = length-append (slice_set (joined_lists cs) p x) (m ∷ []) in
+    let set = length-set (joined_lists cs) p x in
+    record {
+      all = omega (arith, of.all, sizes, more, set);
+      few = omega (arith, less);
+      full = full;
+    }
+
+-- what a call that fails leaves
+pub on_err : {A E P : Type 0} (r : Result A E) → P → OnErr r P
+on_err (Ok a) p = tt
+on_err (Err e) p = p
+
+-- an item put where it stands
+pub set_kept : {T : Type 0} (d : List T) (cs : List (List T)) (i : ℕ) (e : List T) → e ≡ slice_index_or cs i d → slice_set cs i e ≡ cs
+set_kept d cs i e kept = ap (slice_set cs i) kept ∙ set-get_or cs i d

@@ -59,18 +59,30 @@ impl<T: Copied + Drop> Chunk<T> {
         })
     }
 
+    // One owner: where there are others, the items are copied, with memory for one more.
+    fn unshare(&mut self, alloc: Global) -> Result<(), AllocError>
+        ensures { self.new ≡ self.old }
+    {
+        match Arc::get_mut(&mut self.items) {
+            Some(_) => Ok(()),
+            None => {
+                let items = copied_items(alloc, self.items.as_slice())?;
+                self.items = Arc::new(alloc, items)?;
+                Ok(())
+            }
+        }
+    }
+
     /// One more item at the end. After an error, which says that memory ran out, the chunk is as it was.
     pub fn push(&mut self, alloc: Global, item: T) -> Result<(), AllocError>
         ensures ok { OnOk result (self.new ≡ self.old ++ item ∷ []) }
         ensures err { OnErr result (self.new ≡ self.old) }
     {
+        self.unshare(alloc)?;
         match Arc::get_mut(&mut self.items) {
             Some(items) => items.push(item)?,
-            None => {
-                let mut items = copied_items(alloc, self.items.as_slice())?;
-                items.push(item)?;
-                self.items = Arc::new(alloc, items)?;
-            }
+            // (it has one owner now)
+            None => return Err(AllocError),
         }
         Ok(())
     }
@@ -81,13 +93,10 @@ impl<T: Copied + Drop> Chunk<T> {
         ensures ok { OnOk result (self.new ≡ slice_set self.old at item) }
         ensures err { OnErr result (self.new ≡ self.old) }
     {
+        self.unshare(alloc)?;
         match Arc::get_mut(&mut self.items) {
             Some(items) => items[at] = item,
-            None => {
-                let mut items = copied_items(alloc, self.items.as_slice())?;
-                items[at] = item;
-                self.items = Arc::new(alloc, items)?;
-            }
+            None => return Err(AllocError),
         }
         Ok(())
     }
@@ -105,18 +114,14 @@ impl<T: Copied + Drop> Chunk<T> {
         ensures ok { OnOk result (self.new ≡ slice_set self.old at item ++ more ∷ []) }
         ensures err { OnErr result (self.new ≡ self.old) }
     {
+        self.unshare(alloc)?;
         match Arc::get_mut(&mut self.items) {
             Some(items) => {
                 items.reserve(1)?;
                 items[at] = item;
                 items.push_reserved(more);
             }
-            None => {
-                let mut items = copied_items(alloc, self.items.as_slice())?;
-                items[at] = item;
-                items.push(more)?;
-                self.items = Arc::new(alloc, items)?;
-            }
+            None => return Err(AllocError),
         }
         Ok(())
     }
@@ -137,18 +142,13 @@ impl<T: Copied + Drop> Chunk<T> {
         ensures err { OnErr result (self.new ≡ self.old) }
         ensures same { OnErr result (last.new ≡ last.old) }
     {
+        self.unshare(alloc)?;
         match Arc::get_mut(&mut self.items) {
             Some(items) => {
                 last.push(alloc, more)?;
                 items[at] = item;
             }
-            None => {
-                let mut items = copied_items(alloc, self.items.as_slice())?;
-                items[at] = item;
-                let changed = Arc::new(alloc, items)?;
-                last.push(alloc, more)?;
-                self.items = changed;
-            }
+            None => return Err(AllocError),
         }
         Ok(())
     }

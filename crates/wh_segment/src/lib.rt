@@ -11,4 +11,3 @@ mod version;
 pub use meaning::laws;
 pub use segment::Segment;
 pub use version::Version;
-

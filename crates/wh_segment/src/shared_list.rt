@@ -50,19 +50,31 @@ impl<T: Copied + Drop> SharedList<T> {
         self.list.get(place)
     }
 
+    // One owner: where there are others, the list is copied, and still shares its chunks.
+    fn unshare(&mut self, alloc: Global) -> Result<(), AllocError>
+        ensures { self.new ≡ self.old }
+    {
+        match Arc::get_mut(&mut self.list) {
+            Some(_) => Ok(()),
+            None => {
+                let list = self.list.copy(alloc)?;
+                self.list = Arc::new(alloc, list)?;
+                Ok(())
+            }
+        }
+    }
+
     /// One more item at the end. After an error, which says that memory ran out or that there are 2^32 - 1 items, the list
     /// is as it was.
     pub fn push(&mut self, alloc: Global, item: T) -> Result<(), AllocError>
         ensures ok { OnOk result (self.new ≡ self.old ++ item ∷ []) }
         ensures err { OnErr result (self.new ≡ self.old) }
     {
+        self.unshare(alloc)?;
         match Arc::get_mut(&mut self.list) {
             Some(list) => list.push(alloc, item)?,
-            None => {
-                let mut list = self.list.copy(alloc)?;
-                list.push(alloc, item)?;
-                self.list = Arc::new(alloc, list)?;
-            }
+            // (it has one owner now)
+            None => return Err(AllocError),
         }
         Ok(())
     }
@@ -73,13 +85,11 @@ impl<T: Copied + Drop> SharedList<T> {
         ensures ok { OnOk result (self.new ≡ slice_set self.old place item) }
         ensures err { OnErr result (self.new ≡ self.old) }
     {
+        self.unshare(alloc)?;
         match Arc::get_mut(&mut self.list) {
             Some(list) => list.set(alloc, place, item)?,
-            None => {
-                let mut list = self.list.copy(alloc)?;
-                list.set(alloc, place, item)?;
-                self.list = Arc::new(alloc, list)?;
-            }
+            // (it has one owner now)
+            None => return Err(AllocError),
         }
         Ok(())
     }
@@ -97,13 +107,11 @@ impl<T: Copied + Drop> SharedList<T> {
         ensures ok { OnOk result (self.new ≡ slice_set self.old place item ++ more ∷ []) }
         ensures err { OnErr result (self.new ≡ self.old) }
     {
+        self.unshare(alloc)?;
         match Arc::get_mut(&mut self.list) {
             Some(list) => list.set_and_push(alloc, place, item, more)?,
-            None => {
-                let mut list = self.list.copy(alloc)?;
-                list.set_and_push(alloc, place, item, more)?;
-                self.list = Arc::new(alloc, list)?;
-            }
+            // (it has one owner now)
+            None => return Err(AllocError),
         }
         Ok(())
     }

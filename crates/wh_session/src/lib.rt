@@ -9,4 +9,3 @@ mod telling;
 
 pub use session::Session;
 pub use tally::Tally;
-

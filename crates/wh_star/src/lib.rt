@@ -12,4 +12,3 @@ mod scan;
 pub use joining::joined;
 pub use pruning::{misses, query_range};
 pub use range::Range;
-

@@ -151,12 +151,11 @@ kept_pushed scn tables defs parts def h few = record {
 }
 
 -- after `push_table`
-pub pushed_kept : (scn : ℕ) (tables new : List Stored) (defs all more : List TableDef) (parts : List Part) (s : Stored) (def : TableDef) → AreKept scn tables defs parts → s ≡ begun def → all ≡ defs ++ def ∷ [] → more ≡ all
+pub pushed_kept : (scn : ℕ) (tables new : List Stored) (defs more : List TableDef) (parts : List Part) (s : Stored) (def : TableDef) → AreKept scn tables defs parts → s ≡ begun def → more ≡ defs ++ def ∷ []
     → new ≡ tables ++ s ∷ [] → length tables < 2 ^ 32 - 1 → AreKept scn new more parts
-pushed_kept scn tables new defs all more parts s def h is listed shared pushed few =
+pushed_kept scn tables new defs more parts s def h is listed pushed few =
     let list : new ≡ tables ++ begun def ∷ [] = pushed ∙ ap (λ t. tables ++ t ∷ []) is in
-    let names : more ≡ defs ++ def ∷ [] = shared ∙ listed in
-    subst (λ ts. AreKept scn ts more parts) (sym list) (subst (λ ds. AreKept scn (tables ++ begun def ∷ []) ds parts) (sym names) (kept_pushed scn tables defs parts def h few))
+    subst (λ ts. AreKept scn ts more parts) (sym list) (subst (λ ds. AreKept scn (tables ++ begun def ∷ []) ds parts) (sym listed) (kept_pushed scn tables defs parts def h few))
 
 pub kept_same : (scn : ℕ) (tables new : List Stored) (defs : List TableDef) (parts : List Part) → AreKept scn tables defs parts → new ≡ tables → AreKept scn new defs parts
 kept_same scn tables new defs parts h e = subst (λ ts. AreKept scn ts defs parts) (sym e) h

@@ -3,18 +3,19 @@ ghost use Rattle.std.specs.Prelude.{◌≡◌, IfOk};
 use std::alloc::{AllocError, Global};
 use wh_base::copied::Copied;
 use wh_base::seq::Seq;
-use wh_base::tables::{ColumnDef, ForeignDef, TableDef};
+use wh_base::tables::{ColumnDef, TableDef};
 
 /// The same definition of a table. An error says that memory ran out.
 pub fn copied_def(alloc: Global, def: &TableDef) -> Result<TableDef, AllocError>
     ensures { IfOk result (λ d. d ≡ def.now) }
 {
+    // The name last: an error drops what was copied before, and a name takes the most code to drop.
     Ok(TableDef {
-        name: def.name.copied(alloc)?,
         columns: copied_columns(alloc, def.columns.as_slice())?,
-        keys: copied_keys(alloc, def.keys.as_slice())?,
+        keys: copied_items(alloc, def.keys.as_slice())?,
+        foreign: copied_items(alloc, def.foreign.as_slice())?,
+        name: def.name.copied(alloc)?,
         primary: def.primary,
-        foreign: copied_foreign(alloc, def.foreign.as_slice())?,
         part_key: def.part_key,
     })
 }
@@ -34,24 +35,13 @@ fn copied_columns(alloc: Global, columns: &[ColumnDef]) -> Result<Seq<ColumnDef>
     Ok(copies)
 }
 
-/// The same keys. An error says that memory ran out.
-fn copied_keys(alloc: Global, keys: &[u32]) -> Result<Seq<u32>, AllocError>
-    ensures { IfOk result (λ copies. copies ≡ keys.now) }
+/// The same items. An error says that memory ran out.
+fn copied_items<T: Copy + Drop>(alloc: Global, items: &[T]) -> Result<Seq<T>, AllocError>
+    ensures { IfOk result (λ copies. copies ≡ items.now) }
 {
     let mut copies = Seq::new(alloc);
-    for key in keys {
-        copies.push(*key)?;
-    }
-    Ok(copies)
-}
-
-/// The same foreign keys. An error says that memory ran out.
-fn copied_foreign(alloc: Global, keys: &[ForeignDef]) -> Result<Seq<ForeignDef>, AllocError>
-    ensures { IfOk result (λ copies. copies ≡ keys.now) }
-{
-    let mut copies = Seq::new(alloc);
-    for key in keys {
-        copies.push(*key)?;
+    for item in items {
+        copies.push(*item)?;
     }
     Ok(copies)
 }

@@ -10,4 +10,3 @@ pub use def_copy::copied_def;
 pub use meaning::{laws, tables_law};
 pub use table::Table;
 pub use tables::Tables;
-

@@ -105,8 +105,7 @@ impl<L> Tables<L> {
         ensures ok { OnOk result (self.new.tables.items ≡ self.old.tables.items ++ begun def ∷ []) }
         ensures err { OnErr result (self.new.tables.items ≡ self.old.tables.items) }
     {
-        let listed = defs_with(alloc, self.defs.get(), &def)?;
-        let defs = Shared::new(alloc, listed)?;
+        let defs = defs_with(alloc, self.defs.get(), &def)?;
         let table = Table::new(alloc, def)?;
         push_to(&mut self.tables, table)?;
         self.defs = defs;
@@ -186,15 +185,22 @@ fn defs_with(
     alloc: Global,
     defs: &Seq<TableDef>,
     def: &TableDef,
-) -> Result<Seq<TableDef>, AllocError>
+) -> Result<Shared<Seq<TableDef>>, AllocError>
     ensures { IfOk result (λ all. all ≡ defs.now ++ def.now ∷ []) }
 {
     let mut all = Seq::new(alloc);
     for one in defs.as_slice() {
-        all.push(copied_def(alloc, one)?)?;
+        push_copy(alloc, &mut all, one)?;
     }
-    all.push(copied_def(alloc, def)?)?;
-    Ok(all)
+    push_copy(alloc, &mut all, def)?;
+    Shared::new(alloc, all)
+}
+
+/// The definitions with a copy of one more. An error says that memory ran out or that there are 2^32 - 1 of them.
+fn push_copy(alloc: Global, defs: &mut Seq<TableDef>, def: &TableDef) -> Result<(), AllocError>
+    ensures { OnOk result (defs.new ≡ defs.old ++ def.now ∷ []) }
+{
+    defs.push(copied_def(alloc, def)?)
 }
 
 /// One table more. After an error, which says that memory ran out or that there are 2^32 - 1 tables, they are as they were.

@@ -2,8 +2,6 @@
 //! the generated script.
 #![tactic(auto)]
 
-#[cfg(test)]
-mod faults;
 mod input;
 mod output;
 mod running;

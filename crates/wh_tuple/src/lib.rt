@@ -9,4 +9,3 @@ mod tuples;
 pub use cell::Cell;
 pub use columns::{cell_in, cell_of, condition_holds, edge_holds, expr_cell, is_one_of};
 pub use tuples::{TupleRow, Tuples};
-

@@ -6,4 +6,3 @@ mod views;
 
 pub use kept::KeptView;
 pub use views::Views;
-

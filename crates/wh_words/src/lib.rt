@@ -7,4 +7,3 @@ mod plain;
 mod words;
 
 pub use words::{Words, form};
-

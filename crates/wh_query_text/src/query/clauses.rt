@@ -164,9 +164,19 @@ impl Rule for Test {
 
     fn read(parser: &mut Parser<'_>) -> Result<RawTest, ParseFault> {
         let agg = Aggregate::read(parser)?;
-        let op = Operator::read(parser)?;
-        let literal = AnyLiteral::read(parser)?;
-        Ok(RawTest { agg, op, literal })
+        match Operator::read(parser) {
+            Ok(op) => match AnyLiteral::read(parser) {
+                Ok(literal) => Ok(RawTest { agg, op, literal }),
+                Err(fault) => {
+                    drop(agg);
+                    Err(fault)
+                }
+            },
+            Err(fault) => {
+                drop(agg);
+                Err(fault)
+            }
+        }
     }
 }
 
@@ -255,8 +265,13 @@ impl Rule for OrderKey {
 
     fn read(parser: &mut Parser<'_>) -> Result<RawKey, ParseFault> {
         let what = AnyKey::read(parser)?;
-        let descending = Direction::read(parser)?;
-        Ok(RawKey { what, descending })
+        match Direction::read(parser) {
+            Ok(descending) => Ok(RawKey { what, descending }),
+            Err(fault) => {
+                drop(what);
+                Err(fault)
+            }
+        }
     }
 }
 

@@ -66,7 +66,12 @@ impl Rule for Item {
 
     fn read(parser: &mut Parser<'_>) -> Result<RawItem, ParseFault> {
         let what = Either::<ComputedItem, PlainItem>::read(parser)?;
-        let alias = Alias::read(parser)?;
-        Ok(RawItem { what, alias })
+        match Alias::read(parser) {
+            Ok(alias) => Ok(RawItem { what, alias }),
+            Err(fault) => {
+                drop(what);
+                Err(fault)
+            }
+        }
     }
 }
