@@ -10,7 +10,7 @@ import sys
 
 HERE = os.path.dirname(os.path.abspath(__file__))
 INPUTS = (".sql", ".make.py", ".from")
-ENDS = INPUTS + (".out", ".to", ".words", ".status", ".err", ".cases")
+ENDS = INPUTS + (".out", ".to", ".memory", ".words", ".status", ".err", ".cases")
 ESCAPES = {"n": b"\n", "r": b"\r", "t": b"\t", "\\": b"\\"}
 
 
@@ -24,7 +24,7 @@ class Test:
         self.out = out
         self.err = err
         self.given = given
-        self.make = self.source = self.sink = None
+        self.make = self.source = self.sink = self.memory = None
 
     def run(self, program, seconds):
         """The lines that say what is wrong; none where all is as it has to be."""
@@ -35,6 +35,8 @@ class Test:
         if self.source:
             ways = {"stdin": os.open(self.source, os.O_RDONLY)}
         ways["stdout"] = os.open(self.sink, os.O_WRONLY) if self.sink else subprocess.PIPE
+        if self.memory:
+            program = ["bash", "-c", 'ulimit -v "$0" && exec "$@"', self.memory] + program
         try:
             done = subprocess.run(program + self.words, stderr=subprocess.PIPE, timeout=seconds, **ways)
         except subprocess.TimeoutExpired:
@@ -146,6 +148,7 @@ def test_at(path, name, ends):
         test.make = path + ".make.py"
     test.source = read(path + ".from", b"").decode().strip()
     test.sink = read(path + ".to", b"").decode().strip()
+    test.memory = read(path + ".memory", b"").decode().strip()
     return test
 
 

@@ -3,7 +3,7 @@ CREATE TABLE S (K NUMBER, V NUMBER);
 CREATE TABLE D (I NUMBER PRIMARY KEY, N VARCHAR2(4));
 INSERT INTO S VALUES (7, 3), (12, 4), (7, 3), (NULL, 1);
 INSERT INTO D VALUES (7, 'a|b'), (12, NULL);
--- One row for each row of the query, ordered by its group, and else by its items. ORDER BY has no effect.
+-- One row for each row of the query. SHOW VIEW lists them as an answer without ORDER BY: that of the definition has no effect.
 CREATE MATERIALIZED VIEW P AS SELECT V, K FROM S ORDER BY V DESC;
 SHOW VIEW P;
 CREATE MATERIALIZED VIEW G AS SELECT COUNT(*), SUM(V), AVG(V), I FROM S, D WHERE K = I AND K < 10 GROUP BY I;
