@@ -1,3 +1,4 @@
 pub mod Commands
+pub mod Dates
 pub mod Form
 pub mod Forms

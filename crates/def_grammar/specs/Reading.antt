@@ -84,7 +84,7 @@ reserved =
     ∷ codes "ON" ∷ codes "AND" ∷ codes "AS" ∷ codes "OF" ∷ codes "SCN" ∷ codes "IN" ∷ codes "IS" ∷ codes "NOT" ∷ codes "NULL" ∷ codes "BETWEEN"
     ∷ codes "ASC" ∷ codes "DESC" ∷ codes "ROWID" ∷ codes "COUNT" ∷ codes "SUM" ∷ codes "AVG" ∷ codes "MIN" ∷ codes "MAX" ∷ codes "BEGIN"
     ∷ codes "COMMIT" ∷ codes "INSERT" ∷ codes "INTO" ∷ codes "VALUES" ∷ codes "UPDATE" ∷ codes "SET" ∷ codes "DELETE" ∷ codes "CREATE"
-    ∷ codes "ALTER" ∷ codes "DROP" ∷ codes "TABLE" ∷ codes "LEVEL" ∷ codes "HIERARCHY" ∷ codes "ATTRIBUTE" ∷ []
+    ∷ codes "ALTER" ∷ codes "DROP" ∷ codes "TABLE" ∷ codes "LEVEL" ∷ codes "HIERARCHY" ∷ codes "ATTRIBUTE" ∷ codes "DATE" ∷ []
 
 abbrev pub is_name : Token → Bool
 is_name t = same_token_kind t.kind tokens.Name && not (has_text reserved t.text)
@@ -100,6 +100,10 @@ number = mapped (λ t. unwrap_or (digits_number t.text) 0) (token_where (λ t. s
 -- a text in quotes; it gives what stands between them
 abbrev pub quoted : Rule (List ℕ)
 quoted = mapped (λ t. t.text) (token_where (λ t. same_token_kind t.kind tokens.Text))
+
+-- what a rule gives, where the function makes something of it
+abbrev pub made_by : {A B : Type 0} → (A → Option B) → Rule A → Rule B
+made_by f r ts = option_case (r ts) None (λ p. option_map (λ x. (x, p.1)) (f p.0))
 
 -- ---- lists and brackets
 

@@ -1,5 +1,5 @@
 -- SHOW VIEW, SHOW LOG, EXPLAIN MVIEW and VALIDATE over an image.
-use Rattle.std.specs.Prelude.{Err, List, None, Ok, Option, Result, [], not, option_map, ℕ, ◌&&◌, ◌∷◌}
+use Rattle.std.specs.Prelude.{Err, List, None, Ok, Option, Result, Some, [], cond, not, option_map, ℕ, ◌&&◌, ◌∷◌}
 use Rattle.wh_base.specs.Lists.{first_of, first_some, is_empty, or_refuse, where_true, ◌>>=◌}
 use Rattle.wh_base.specs.Tables.{def_at}
 use Rattle.wh_base.specs.declared.replies.Reason.{Reason}
@@ -12,7 +12,7 @@ use Rattle.wh_base.specs.declared.views.Restriction.TheVariants.{F12, P2}
 use Rattle.def_dimensions.specs.Dimensions.{Dimension}
 use Rattle.def_dimensions.specs.Relations.{broken, validate_reads}
 use Rattle.def_effect.specs.Block.{the_table}
-use Rattle.def_history.specs.Catalog.{Catalog, Log, View, base_now, defs_now, dimension_named, log_of, view_named}
+use Rattle.def_history.specs.Catalog.{Catalog, Log, View, base_now, defs_now, dimension_named, is_nested, log_of, view_named}
 use Rattle.def_history.specs.Logs.{log_rows}
 use Rattle.def_history.specs.Staleness.{content_rows, facts_of, form_of_view, shown_intervals, view_state}
 use Rattle.def_journal.specs.State.{State, Step, refused, replied}
@@ -83,6 +83,10 @@ abbrev pub rewritten_by_parts : Catalog → View → Option Reason
 rewritten_by_parts c v =
     first_some (rewritten v ∷ option_map (refresh_reason c) (first_some (check_p1 v.def ∷ where_true (not (selects_key v.def)) P2 ∷ [])) ∷ [])
 
+-- A view over a view is neither refreshed by logs or partitions nor matched by its text.
+abbrev pub unless_nested : View → Option Reason → Option Reason
+unless_nested v r = cond (is_nested v) (Some reason.Nested) r
+
 -- The nine lines in order; a line without a reason says Y.
 abbrev pub explain_view : Catalog → View → Reply
 explain_view c v =
@@ -90,12 +94,12 @@ explain_view c v =
       view = v.def.name;
       lines =
           None
-          ∷ after_insert c v
-          ∷ after_one_table c v
-          ∷ after_any c v
-          ∷ by_parts c v
-          ∷ not_enabled v
-          ∷ rewritten v
+          ∷ unless_nested v (after_insert c v)
+          ∷ unless_nested v (after_one_table c v)
+          ∷ unless_nested v (after_any c v)
+          ∷ unless_nested v (by_parts c v)
+          ∷ unless_nested v (not_enabled v)
+          ∷ unless_nested v (rewritten v)
           ∷ rewritten v
           ∷ rewritten_by_parts c v
           ∷ [];

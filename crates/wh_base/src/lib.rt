@@ -4,6 +4,7 @@
 
 pub mod columns;
 pub mod copied;
+pub mod day;
 pub mod fraction;
 pub mod logs;
 pub mod pair;

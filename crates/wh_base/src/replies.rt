@@ -62,6 +62,8 @@ pub enum Refusal {
     NotAKey(Txt, Txt),
     StillUsed(Txt),
     OnlyReading,
+    BeneathUnbuilt(Txt),
+    NotNested(Txt),
 }
 
 /// What a commit did with one of its views.
@@ -127,6 +129,23 @@ pub struct RefreshDone {
     pub holds: u64,
 }
 
+/// What a refresh of a list did with one of its views: the method used, and how many entries the view holds.
+#[derive(Drop)]
+pub struct ListLine {
+    pub view: Txt,
+    pub method: Method,
+    pub holds: u64,
+}
+
+/// The reply to a refresh of a list: the SCN of its begin, how many base rows it read, and its views in the order of the
+/// list.
+#[derive(Drop)]
+pub struct ListDone {
+    pub scn: u64,
+    pub read: u64,
+    pub views: Seq<ListLine>,
+}
+
 /// The reply to SHOW VIEW.
 #[derive(Drop)]
 pub struct ShownView {
@@ -153,6 +172,7 @@ pub struct ShownLog {
 pub enum Reason {
     Refresh(Restricted),
     Rewrite(u32),
+    Nested,
 }
 
 /// The nine lines in order, None for Y.
@@ -208,4 +228,6 @@ pub enum Reply {
     Rewrite(ExplainedQuery),
     Validate(Validated),
     Refuse(Refused),
+    RefreshList(ListDone),
+    Submit,
 }

@@ -72,11 +72,12 @@ pub struct LoadRows {
     pub rows: Seq<Seq<Txt>>,
 }
 
-/// What a column is declared to hold, as it is written: NUMBER with its digits, or VARCHAR2 with its bytes.
+/// What a column is declared to hold, as it is written: NUMBER with its digits, VARCHAR2 with its bytes, or DATE.
 #[derive(Drop)]
 pub enum RawKind {
     Digits(Option<i128>),
     Bytes(i128),
+    Days,
 }
 
 /// REFERENCES; without a column it is the primary key of the table.
@@ -140,20 +141,41 @@ pub struct Partitioning {
     pub ranges: Seq<NewRange>,
 }
 
-/// CREATE TABLE.
+/// CREATE TABLE; `movement` is ENABLE ROW MOVEMENT.
 #[derive(Drop)]
 pub struct NewTable {
     pub name: Txt,
     pub parts: Seq<TablePart>,
     pub partitioning: Option<Partitioning>,
+    pub movement: bool,
 }
 
-/// What ALTER TABLE does with a partition.
+/// SPLIT PARTITION: its name, the bound between the two new partitions, and their names.
+#[derive(Drop)]
+pub struct SplitPart {
+    pub name: Txt,
+    pub at: Literal,
+    pub lower: Txt,
+    pub upper: Txt,
+}
+
+/// MERGE PARTITIONS: the names of the two, and that of the new one.
+#[derive(Drop)]
+pub struct MergeParts {
+    pub lower: Txt,
+    pub upper: Txt,
+    pub name: Txt,
+}
+
+/// What ALTER TABLE does with partitions, or to let rows move from one to another.
 #[derive(Drop)]
 pub enum PartChange {
     Add(NewRange),
     DropPart(Txt),
     Truncate(Txt),
+    Split(SplitPart),
+    Merge(MergeParts),
+    Movement(bool),
 }
 
 /// ALTER TABLE.
@@ -238,11 +260,13 @@ pub struct NewDimension {
     pub attributes: Seq<NewAttribute>,
 }
 
-/// DBMS_MVIEW.REFRESH of a view; without a method the view's own holds.
+/// DBMS_MVIEW.REFRESH of a view, or of a list of views, of which `more` are those after the first; without a method each
+/// view's own holds.
 #[derive(Drop)]
 pub struct RefreshView {
     pub name: Txt,
     pub method: Option<Method>,
+    pub more: Seq<Txt>,
 }
 
 /// A statement that changes rows; one by itself is a block of one statement.
@@ -331,27 +355,30 @@ pub struct Block {
     pub statements: Seq<Statement>,
 }
 
-/// A command of a session: a block, or any other statement.
+/// A command of a session: a block, any other statement, or SUBMIT of a refresh of one view, which a worker does.
 #[derive(Drop)]
 pub enum Command {
     Block(Block),
     Other(Statement),
+    Submit(Statement),
 }
 
 /// An entry of the journal: a part of a command of a session. Session 0 is the setup; commands and parts are numbered
-/// from 1.
+/// from 1. The worker is 0 where the session does the part itself, and else the one that does it.
 #[derive(Clone, Copy, Debug)]
 pub struct Entry {
     pub session: u32,
     pub command: u32,
     pub part: u32,
+    pub worker: u32,
 }
 
-/// A command of a session by its number, counted from 1.
+/// A command of a session by its number, counted from 1, and the worker that does it as a job, 0 for the session itself.
 #[derive(Clone, Copy, Debug)]
 pub struct Id {
     pub session: u32,
     pub command: u32,
+    pub worker: u32,
 }
 
 /// An entry of the journal with its command beside it. A trace is a list of these.
@@ -368,11 +395,12 @@ pub struct Section {
     pub commands: Seq<Shared<Command>>,
 }
 
-/// A script: its sections, and the sessions whose next part is taken in turn.
+/// A script: its sections, the sessions whose next part is taken in turn, and how many workers do its jobs.
 #[derive(Drop)]
 pub struct Script {
     pub sections: Seq<Section>,
     pub order: Seq<u32>,
+    pub workers: u32,
 }
 
 /// What is wrong with a script.

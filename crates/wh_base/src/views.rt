@@ -16,7 +16,8 @@ pub struct ViewEntry {
 
 pub type ViewRows = Seq<ViewEntry>;
 
-/// The tables are in tree order.
+/// The tables are in tree order. Over another view the query is the composed one, over base tables, and `beneath` is the
+/// number of the view beneath.
 #[derive(Drop)]
 pub struct ViewDef {
     pub view: u64,
@@ -27,6 +28,7 @@ pub struct ViewDef {
     pub method: Method,
     pub on_commit: bool,
     pub rewrite: bool,
+    pub beneath: Option<u64>,
 }
 
 #[derive(Drop)]
@@ -81,6 +83,7 @@ pub enum Class {
     Partial,
     General,
     JoinBack,
+    Concat,
 }
 
 /// A table joined back by its column `by` over the available column `source`; `columns` is what it gains.

@@ -1,5 +1,6 @@
 -- The clauses of a query before ORDER BY read the same, whatever stands from there on.
-use Rattle.std.proofs.Common.{◌≤◌, arith, ℕ, List, ◌∷◌, refl, ◌&&◌, Option, Some, None, codes, neg_ℤ, not, pos, unwrap_or}
+use Rattle.std.proofs.Common.{◌≤◌, arith, ℕ, List, ◌∷◌, refl, ◌&&◌, Option, Some, None, codes, neg_ℤ, not, option_map, pos, unwrap_or}
+use Rattle.wh_base.specs.DayTexts.{day_of}
 use Rattle.wh_base.specs.Lists.{has_text, option_case}
 use Rattle.wh_base.specs.Values.{digits_number}
 use Rattle.wh_base.specs.declared.queries.ColName.{ColName}
@@ -18,14 +19,14 @@ use Rattle.wh_base.specs.declared.queries.RawTest.{RawTest}
 use Rattle.wh_base.specs.declared.queries.RawWhat.{RawWhat}
 use Rattle.wh_base.specs.declared.queries.RawWhat.TheVariants as what
 use Rattle.wh_base.specs.declared.values.Literal.{Literal}
-use Rattle.wh_base.specs.declared.values.Literal.TheVariants.{Number, Quoted}
+use Rattle.wh_base.specs.declared.values.Literal.TheVariants.{Dated, Number, Quoted}
 use Rattle.wh_base.specs.declared.values.Op.{Op}
 use Rattle.wh_base.specs.declared.values.Op.TheVariants.{Eq, Ge, Gt, Le, Lt, Ne}
 use Rattle.wh_lex.specs.declared.token.Token.{Token}
 use Rattle.wh_lex.specs.declared.token.TokenKind.TheVariants as kinds
-use Rattle.def_grammar.specs.Query.{aggregate, aggregate_of, alias, all_of, as_of, column, column_named_by, condition, condition_on, expression, from_tables, item, join, joined_table, literal, marker, on_join, op_of, operator, plain_name, product_or_column, qualifier, rowid_as, signed, table, table_with, test, where_conditions}
-use Rattle.def_grammar.specs.Reading.{Rule, bracketed, gives, listed, many, mapped, mark, maybe, name, number, optional_list, quoted, reserved, same_token_kind, word, ◌>>=◌, ◌>>◌, ◌or◌}
-use Rattle.wh_text_law.proofs.Steady.{Along, Blind, Steady, size, bind-steady, bracketed-steady, const-steady, gives-steady, listed-steady, many-steady, mapped-steady, mark-blind, mark-first, maybe-blind, maybe-steady, optional-steady, or-steady, then-blind, then-later, then-steady, token-steady, weaker, word-blind, word-first}
+use Rattle.def_grammar.specs.Query.{aggregate, aggregate_of, alias, all_of, as_of, column, column_named_by, condition, condition_on, date, expression, from_tables, item, join, joined_table, literal, marker, on_join, op_of, operator, plain_name, product_or_column, qualifier, rowid_as, signed, table, table_with, test, where_conditions}
+use Rattle.def_grammar.specs.Reading.{Rule, bracketed, gives, listed, made_by, many, mapped, mark, maybe, name, number, optional_list, quoted, reserved, same_token_kind, word, ◌>>=◌, ◌>>◌, ◌or◌}
+use Rattle.wh_text_law.proofs.Steady.{Alike, Along, Blind, Steady, size, bind-steady, bracketed-steady, const-steady, gives-steady, listed-steady, many-steady, mapped-steady, mark-blind, mark-first, maybe-blind, maybe-steady, optional-steady, or-steady, then-blind, then-later, then-steady, token-steady, weaker, word-blind, word-first}
 
 -- ---- names, numbers and texts
 
@@ -48,8 +49,29 @@ signed-steady =
     or-steady 0 (mark (codes "-") >> mapped (λ n. neg_ℤ (pos n)) number) (mapped pos number)
     (then-steady 0 (mark (codes "-")) (mapped (λ n. neg_ℤ (pos n)) number) (mark-blind (codes "-")) (mapped-steady 0 (λ n. neg_ℤ (pos n)) number number-steady)) unsigned-steady
 
+-- what a rule gives, where something is made of it
+made-alike : {A B : Type 0} (n : ℕ) (f : A → Option B) (o u : Option (A × List Token)) → Alike n 0 o u
+    → Alike n 0 (option_case o None (λ p. option_map (λ x. (x, p.1)) (f p.0))) (option_case u None (λ p. option_map (λ x. (x, p.1)) (f p.0)))
+made-alike n f None None h = tt
+made-alike n f None (Some q) h = absurd h
+made-alike n f (Some p) None h = absurd h
+made-alike {B = B} n f (Some p) (Some q) h = rw (h.0) (by (f p.0))
+  where
+    by : (o : Option B) → Alike n 0 (option_map (λ x. (x, p.1)) o) (option_map (λ x. (x, q.1)) o)
+    by None = tt
+    by (Some x) = (refl, h.1, h.2)
+
+made-steady : {A B : Type 0} (f : A → Option B) (r : Rule A) → Steady 0 r → Steady 0 (made_by f r)
+made-steady f r h = record { alike = λ ts us like. made-alike (size ts) f (r ts) (r us) (h.alike ts us like) }
+
+date-steady : Steady 0 date
+date-steady =
+    then-steady 0 (word (codes "DATE")) (made_by (λ text. option_map Dated (day_of text)) quoted) (word-blind (codes "DATE") refl) (made-steady (λ text. option_map Dated (day_of text)) quoted quoted-steady)
+
 literal-steady : Steady 0 literal
-literal-steady = or-steady 0 (mapped Number signed) (mapped Quoted quoted) (mapped-steady 0 Number signed signed-steady) (mapped-steady 0 Quoted quoted quoted-steady)
+literal-steady =
+    or-steady 0 (mapped Number signed) (mapped Quoted quoted or date) (mapped-steady 0 Number signed signed-steady)
+    (or-steady 0 (mapped Quoted quoted) date (mapped-steady 0 Quoted quoted quoted-steady) date-steady)
 
 qualifier-steady : Steady 0 qualifier
 qualifier-steady =

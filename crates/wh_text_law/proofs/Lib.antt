@@ -4,4 +4,6 @@ mod Later
 mod Steady
 mod Clauses
 mod Parts
+mod Passing
+mod Partial
 mod Answer

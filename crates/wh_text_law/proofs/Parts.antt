@@ -68,7 +68,7 @@ same-end t xs false e h = cc
 abbrev is_before : Token → Bool
 is_before t = not (is_order t)
 
-like-same : (ts us : List Token) → same_tokens (take_while is_before ts) (take_while is_before us) ≡ true → Like ts us
+pub like-same : (ts us : List Token) → same_tokens (take_while is_before ts) (take_while is_before us) ≡ true → Like ts us
 like-same [] [] h = tt
 like-same [] (u ∷ us) h = let same = rw (take_while-cons is_before u us) at h in end-same u (take_while is_before us) (is_order u) refl same
 like-same (t ∷ ts) [] h = let same = rw (take_while-cons is_before t ts) at h in same-end t (take_while is_before ts) (is_order t) refl same
@@ -87,14 +87,14 @@ full-like s t h = like-same s t (full-true (same_tokens (before_order s) (before
 -- ---- queries that are equal in all but ORDER BY
 
 -- where both read a query
-abbrev Agree : Option (RawQuery × List Token) → Option (RawQuery × List Token) → Type 0
+abbrev pub Agree : Option (RawQuery × List Token) → Option (RawQuery × List Token) → Type 0
 Agree None u = Unit {0}
 Agree (Some p) None = Unit {0}
 Agree (Some p) (Some q) = without_order p.0 ≡ without_order q.0
 
 -- a rule that reads such queries from all tokens that are equal up to ORDER
-record Settled (r : Rule RawQuery) : Type 0 where
-  agree : (ts us : List Token) → Like ts us → Agree (r ts) (r us)
+pub record Settled (r : Rule RawQuery) : Type 0 where
+  pub agree : (ts us : List Token) → Like ts us → Agree (r ts) (r us)
 
 bind-agree : {A : Type 0} (n : ℕ) (f : A → Rule RawQuery) → ((x : A) → Settled (f x)) → (o u : Option (A × List Token)) → Alike n 0 o u
     → Agree (option_case o None (λ p. f p.0 p.1)) (option_case u None (λ p. f p.0 p.1))
@@ -116,10 +116,10 @@ then-agree n s e (Some p) (Some q) h = e.agree p.1 q.1 h.0
 then-settled : {A : Type 0} (r : Rule A) (s : Rule RawQuery) → Blind 0 r → Settled s → Settled (r >> s)
 then-settled r s h e = record { agree = λ ts us like. then-agree (size ts) s e (r ts) (r us) (h.along ts us like) }
 
-abbrev keys : Rule (List RawKey)
+abbrev pub keys : Rule (List RawKey)
 keys = optional_list (word (codes "ORDER") >> word (codes "BY") >> listed order_key)
 
-abbrev made : List RawItem → List RawTable → Option ℤ → List RawCondition → List ColName → List RawTest → List RawKey → RawQuery
+abbrev pub made : List RawItem → List RawTable → Option ℤ → List RawCondition → List ColName → List RawTest → List RawKey → RawQuery
 made i t s c g h o = record { items = i; tables = t; as_of = s; conditions = c; groups = g; having = h; order = o }
 
 -- whatever ORDER BY reads as
@@ -141,7 +141,7 @@ rest-settled i t s =
     bind-settled groups (λ g. havings >>= (λ h. keys >>= (λ o. gives (made i t s c g h o)))) groups-steady (λ g.
     bind-settled havings (λ h. keys >>= (λ o. gives (made i t s c g h o))) havings-steady (λ h. keys-settled i t s c g h)))
 
-from-settled : (i : List RawItem) → Settled (word (codes "FROM") >> (from_tables >>= (λ t. as_of >>= (λ s. rest_of i t s))))
+pub from-settled : (i : List RawItem) → Settled (word (codes "FROM") >> (from_tables >>= (λ t. as_of >>= (λ s. rest_of i t s))))
 from-settled i =
     then-settled (word (codes "FROM")) (from_tables >>= (λ t. as_of >>= (λ s. rest_of i t s))) (word-blind (codes "FROM") refl)
     (bind-settled from_tables (λ t. as_of >>= (λ s. rest_of i t s)) from-steady (λ t.

@@ -13,7 +13,7 @@ use Rattle.def_resolve.specs.Resolve.{first_table, grouping_holds, joins_of, kin
 use Rattle.def_resolve.specs.Star.{Tree, star_of}
 use Rattle.wh_base.specs.Lists.{first_some, where_true}
 use Rattle.std.specs.Prelude.{not}
-use Rattle.wh_text_law.specs.Unordered.{unordered, without_order}
+use Rattle.wh_text_law.specs.Unordered.{from_formed, from_written, unordered, without_order}
 
 -- the star form by the query's tree, where it has one, without the order of its answer
 abbrev formed : List TableDef → RawQuery → Option StarQuery
@@ -54,3 +54,29 @@ pub same-stars : (defs : List TableDef) (a b : RawQuery) (q r : StarQuery) → w
 same-stars defs a b q r h left right =
     let same : formed defs a ≡ formed defs b = ap (λ (x : RawQuery). formed defs x) h in
     some-same (unordered q) (unordered r) (sym (resolved-formed defs a q left) ∙ same ∙ resolved-formed defs b r right)
+
+-- ---- from FROM on
+
+abbrev formed-from : List TableDef → RawQuery → Option StarQuery
+formed-from defs q =
+    let column : (ColName → ColRef) = column_named (sources_of defs q) in
+    option_map (λ tree. from_formed (star_query q column tree)) (star_of defs (joins_of column q) (map (λ s. s.table) (sources_of defs q)))
+
+at-tree-from : (o : Option Tree) (f : Tree → Option Refusal) (g : Tree → StarQuery) (x : StarQuery) → (or_refuse o NotStar >>= (λ tree. unless (f tree) (g tree))) ≡ Ok x
+    → option_map (λ tree. from_formed (g tree)) o ≡ Some (from_formed x)
+at-tree-from None f g x h = cc
+at-tree-from (Some tree) f g x h = ap (λ (y : StarQuery). Some (from_formed y)) (after-refusal (f tree) (g tree) x h)
+
+resolved-from : (defs : List TableDef) (a : RawQuery) (q : StarQuery) → resolve defs a ≡ Ok q → formed-from defs a ≡ Some (from_formed q)
+resolved-from defs a q h =
+    let sources = sources_of defs a in
+    let column : (ColName → ColRef) = column_named sources in
+    let items = map (λ i. resolved_item column i.what) a.items in
+    let refusals : Option Refusal = first_some (table_refusal defs a ∷ names_refusal sources a ∷ kinds_refusal defs (first_table sources) column a ∷ []) in
+    at-tree-from (star_of defs (joins_of column a) (map (λ s. s.table) sources)) (λ tree. where_true (not (grouping_holds a column items (map column a.groups))) NotGrouped) (star_query a column) q
+    (after-refusals refusals (star_form defs a sources) q h)
+
+pub same-from : (defs : List TableDef) (a b : RawQuery) (q r : StarQuery) → from_written a ≡ from_written b → resolve defs a ≡ Ok q → resolve defs b ≡ Ok r → from_formed q ≡ from_formed r
+same-from defs a b q r h left right =
+    let same : formed-from defs a ≡ formed-from defs b = ap (λ (x : RawQuery). formed-from defs x) h in
+    some-same (from_formed q) (from_formed r) (sym (resolved-from defs a q left) ∙ same ∙ resolved-from defs b r right)

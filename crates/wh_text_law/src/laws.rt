@@ -3,7 +3,7 @@ ghost use Rattle.def_grammar.specs.Reading.{whole};
 ghost use Rattle.def_meaning.specs.Meaning.{in_order, meaning, stored};
 ghost use Rattle.def_resolve.specs.Resolve.{resolve};
 ghost use Rattle.def_rewriting.specs.Matching.{match_text};
-ghost use Rattle.def_rewriting.specs.Matching.{FullText};
+ghost use Rattle.def_rewriting.specs.Matching.{FullText, PartialText};
 ghost use Rattle.std.specs.Prelude.{◌++◌, ◌≡◌, List, Ok, Some, map, true, ℕ};
 ghost use Rattle.wh_base.specs.Lists.{has_number};
 ghost use Rattle.wh_base.specs.Tables.{Base, table_at};
@@ -11,7 +11,7 @@ ghost use Rattle.wh_base.specs.declared.queries.RawQuery.{RawQuery};
 ghost use Rattle.wh_base.specs.declared.queries.StarQuery.{StarQuery};
 ghost use Rattle.wh_base.specs.declared.tables.TableDef.{TableDef};
 ghost use Rattle.wh_lex.specs.declared.token.Token.{Token};
-ghost use Rattle.wh_text_law.specs.Unordered.{unordered, without_order};
+ghost use Rattle.wh_text_law.specs.Unordered.{from_formed, unordered, without_order};
 
 /// Two texts that are equal up to ORDER BY, token by token, are queries that are equal in all but ORDER BY: in their items with
 /// their aliases, in tables, AS OF, conditions, groups and HAVING. So it is for what the grammar reads at the front of the
@@ -63,4 +63,13 @@ pub fn same_answer()
         → resolve (defs ++ more) a ≡ Ok q → resolve defs b ≡ Ok r
         → ((n : ℕ) → has_number r.tables n ≡ true → table_at base n ≡ table_at now n)
         → meaning q now ≡ in_order q.order (map (λ e. e.row) (stored r base)) }
+{}
+
+/// Two texts that are equal from FROM on up to ORDER BY, token by token, are star forms that are equal in all but items, ORDER BY
+/// and whether they are grouped. The one of the view may have been resolved when there were fewer tables.
+pub fn same_from()
+    ensures { (s t : List Token) (a b : RawQuery) (defs more : List TableDef) (q r : StarQuery)
+        → match_text s t ≡ PartialText → whole select s ≡ Some a → whole select t ≡ Some b
+        → resolve (defs ++ more) a ≡ Ok q → resolve defs b ≡ Ok r
+        → from_formed q ≡ from_formed r }
 {}

@@ -1,5 +1,5 @@
 -- What a statement of a block may ask of its table: new rows, new values of rows, or that rows go.
-use Rattle.std.proofs.Common.{◌≡◌, ◌∙◌, ap, refl, arith, ℕ, zero, suc, Bool, true, false, not, List, [], ◌∷◌, length, map, Option, None, ◌==◌}
+use Rattle.std.proofs.Common.{◌<◌, ◌≡◌, ◌∙◌, ap, refl, arith, ℕ, zero, suc, Bool, true, false, not, List, [], ◌∷◌, length, map, Option, None, ◌==◌}
 use Rattle.std.specs.List.{filter}
 use Rattle.std.specs.Prelude.{Ok, flat_map, unwrap_or, zip}
 use Rattle.std.proofs.lemmas.Bool.{eqb-true}
@@ -20,6 +20,7 @@ use Rattle.wh_base.specs.declared.tables.Change.{Change}
 use Rattle.wh_base.specs.declared.tables.TableDef.{TableDef}
 use Rattle.wh_base.specs.declared.values.Value.{Value}
 use Rattle.def_effect.specs.Block.{Asks, conditions_unknown, deleted_change, field_misfits, full_row, given_row_refusal, insert_changes, load_row_refusal, loaded_row, named_places, own_column, own_kinds_refusal, placed_value, repeated_column, row_meets, set_names, set_refusal, statement_asks, the_table, unknown_column, updated_change, wrong_number}
+use Rattle.wh_trace.proofs.Stepping.{named_there}
 use Rattle.wh_trace.proofs.Basing.{none_each, none_first, none_where}
 use Rattle.wh_trace.proofs.Listed.{Each, each_made, each_map}
 use Rattle.wh_trace.proofs.Outcomes.{EachOk, bind_ok, ok_holds, unless_ok}
@@ -64,14 +65,14 @@ loaded_wide d fields none =
 
 -- ---- the four statements
 
-abbrev given_rows : InsertRows → List (List Value)
+abbrev pub given_rows : InsertRows → List (List Value)
 given_rows s = map (map given_value) s.rows
 
-abbrev insert_refusal : Table → InsertRows → Option Refusal
+abbrev pub insert_refusal : Table → InsertRows → Option Refusal
 insert_refusal t s =
     first_some (unknown_column t.def (unwrap_or s.columns []) ∷ repeated_column (unwrap_or s.columns []) ∷ first_of (given_row_refusal t.def (named_places t.def s.columns)) (given_rows s) ∷ [])
 
-abbrev inserts : ℕ → Table → InsertRows → Asks
+abbrev pub inserts : ℕ → Table → InsertRows → Asks
 inserts n t s = record { table = n; changes = insert_changes t (map (λ r. full_row t.def (zip (named_places t.def s.columns) r)) (given_rows s)); scanned = 0 }
 
 insert_shape : (base : Base) (s : InsertRows) → EachOk (Shaped base) (statement_asks base (about.Change (Insert s)))
@@ -82,7 +83,7 @@ insert_shape base s =
     (each_made (IsWide (table_at base n).def) (λ r. full_row (table_at base n).def (zip (named_places (table_at base n).def s.columns) r))
     (λ r. full_wide (table_at base n).def (zip (named_places (table_at base n).def s.columns) r)) (given_rows s)) refl))
 
-abbrev loads : ℕ → Table → LoadRows → Asks
+abbrev pub loads : ℕ → Table → LoadRows → Asks
 loads n t s = record { table = n; changes = insert_changes t (map (loaded_row t.def) s.rows); scanned = 0 }
 
 load_shape : (base : Base) (s : LoadRows) → EachOk (Shaped base) (statement_asks base (about.Change (Load s)))
@@ -93,7 +94,7 @@ load_shape base s =
     (each_map (λ fields. load_row_refusal (table_at base n).def fields ≡ None) (IsWide (table_at base n).def) (loaded_row (table_at base n).def)
     (loaded_wide (table_at base n).def) s.rows (none_each (load_row_refusal (table_at base n).def) s.rows none)) refl))
 
-abbrev update_refusal : ℕ → Table → UpdateRows → Option Refusal
+abbrev pub update_refusal : ℕ → Table → UpdateRows → Option Refusal
 update_refusal n t s =
     first_some (
     unknown_column t.def (flat_map set_names s.sets)
@@ -103,7 +104,7 @@ update_refusal n t s =
     ∷ first_of (own_kinds_refusal t.def (own_column n t.def)) s.conditions
     ∷ [])
 
-abbrev updates : ℕ → Table → UpdateRows → Asks
+abbrev pub updates : ℕ → Table → UpdateRows → Asks
 updates n t s = record { table = n; changes = map (updated_change t.def s.sets) (filter (λ r. row_meets n t.def s.conditions r.values) t.rows); scanned = length t.rows }
 
 update_shape : (base : Base) (s : UpdateRows) → EachOk (Shaped base) (statement_asks base (about.Change (Update s)))
@@ -112,10 +113,10 @@ update_shape base s =
     (λ n e. unless_ok (Shaped base) (update_refusal n (table_at base n) s) (updates n (table_at base n) s)
     (λ none. Updates s.sets (λ r. row_meets n (table_at base n).def s.conditions r.values) refl))
 
-abbrev delete_refusal : ℕ → Table → DeleteRows → Option Refusal
+abbrev pub delete_refusal : ℕ → Table → DeleteRows → Option Refusal
 delete_refusal n t s = first_some (conditions_unknown n t.def s.conditions ∷ first_of (own_kinds_refusal t.def (own_column n t.def)) s.conditions ∷ [])
 
-abbrev deletes : ℕ → Table → DeleteRows → Asks
+abbrev pub deletes : ℕ → Table → DeleteRows → Asks
 deletes n t s = record { table = n; changes = map deleted_change (filter (λ r. row_meets n t.def s.conditions r.values) t.rows); scanned = length t.rows }
 
 delete_shape : (base : Base) (s : DeleteRows) → EachOk (Shaped base) (statement_asks base (about.Change (Delete s)))
@@ -134,3 +135,26 @@ shapes base s = tt
 -- what the statement asks has one of the shapes
 pub shape_of : (base : Base) (s : Statement) (a : Asks) → statement_asks base s ≡ Ok a → Shape (table_at base a.table) a.changes
 shape_of base s a asks = ok_holds (Shaped base) (statement_asks base s) a (shapes base s) asks
+
+-- ---- the table of a statement that goes through is there
+
+abbrev IsThere : Base → Asks → Type 0
+IsThere base a = a.table < length base
+
+asked_there : (base : Base) (s : Statement) → EachOk (IsThere base) (statement_asks base s)
+asked_there base (about.Change (Insert s)) =
+    bind_ok (IsThere base) (the_table base s.table) (λ n. unless (insert_refusal (table_at base n) s) (inserts n (table_at base n) s))
+    (λ n e. unless_ok (IsThere base) (insert_refusal (table_at base n) s) (inserts n (table_at base n) s) (λ none. named_there base s.table n e))
+asked_there base (about.Change (Load s)) =
+    bind_ok (IsThere base) (the_table base s.table) (λ n. unless (first_of (load_row_refusal (table_at base n).def) s.rows) (loads n (table_at base n) s))
+    (λ n e. unless_ok (IsThere base) (first_of (load_row_refusal (table_at base n).def) s.rows) (loads n (table_at base n) s) (λ none. named_there base s.table n e))
+asked_there base (about.Change (Update s)) =
+    bind_ok (IsThere base) (the_table base s.table) (λ n. unless (update_refusal n (table_at base n) s) (updates n (table_at base n) s))
+    (λ n e. unless_ok (IsThere base) (update_refusal n (table_at base n) s) (updates n (table_at base n) s) (λ none. named_there base s.table n e))
+asked_there base (about.Change (Delete s)) =
+    bind_ok (IsThere base) (the_table base s.table) (λ n. unless (delete_refusal n (table_at base n) s) (deletes n (table_at base n) s))
+    (λ n e. unless_ok (IsThere base) (delete_refusal n (table_at base n) s) (deletes n (table_at base n) s) (λ none. named_there base s.table n e))
+asked_there base s = tt
+
+pub is_there : (base : Base) (s : Statement) (a : Asks) → statement_asks base s ≡ Ok a → a.table < length base
+is_there base s a asks = ok_holds (IsThere base) (statement_asks base s) a (asked_there base s) asks

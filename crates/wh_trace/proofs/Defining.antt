@@ -25,18 +25,18 @@ use Rattle.def_history.specs.Catalog.{defs_now}
 use Rattle.def_resolve.specs.Earlier.{first_after, first_in_turn}
 use Rattle.def_resolve.specs.Kinds.{Sort, agrees, part_sort}
 use Rattle.wh_base.specs.declared.columns.ColPart.TheVariants.{Col}
-use Rattle.wh_trace.proofs.Basing.{KeepsBase, base_holds, none_each, none_first, none_rest, none_where}
-use Rattle.wh_trace.proofs.Listed.{Each, Pairs, all_from, each_append, each_every, each_left, each_right, each_two, each_weaker, pairs_from, some_same}
+use Rattle.wh_trace.proofs.Basing.{KeepsBase, base_holds, made_of, none_each, none_first, none_rest, none_where}
+use Rattle.wh_trace.proofs.Listed.{Each, Pairs, all_from, each_append, each_every, each_left, each_right, each_two, each_unmap, each_weaker, pairs_from, some_same}
 use Rattle.wh_trace.proofs.Outcomes.{ok_holds}
 use Rattle.wh_trace.proofs.Parenting.{find_none}
 use Rattle.wh_trace.proofs.Stepping.{HasDef, part_keeps}
-use Rattle.wh_trace.proofs.Tabling.{with_table_defs}
-use Rattle.wh_trace.specs.Reached.{catalog_of}
+use Rattle.wh_trace.proofs.Tabling.{with_table_defs, with_table_still}
+use Rattle.wh_trace.specs.Reached.{catalog_of, still}
 use Rattle.wh_trace.specs.Rows.{IsDefined}
 
 -- ---- places
 
-placed_within : {A : Type 0} (p : A → Bool) (xs : List A) (i : ℕ) → position p xs ≡ Some i → i < length xs
+pub placed_within : {A : Type 0} (p : A → Bool) (xs : List A) (i : ℕ) → position p xs ≡ Some i → i < length xs
 placed_within p xs i e = by (nat_lt (position_or_len p xs) (length xs)) refl e
   where
     by : (b : Bool) → nat_lt (position_or_len p xs) (length xs) ≡ b → cond b (Some (position_or_len p xs)) None ≡ Some i → i < length xs
@@ -49,7 +49,7 @@ one_more : (n : ℕ) → 1 + n ≡ suc n
 one_more n = omega arith
 
 -- what is found stands at its place
-found_place : {A : Type 0} (p : A → Bool) (xs : List A) → is_none (find p xs) ≡ false → (position_or_len p xs < length xs) × (slice_get xs (position_or_len p xs) ≡ find p xs)
+pub found_place : {A : Type 0} (p : A → Bool) (xs : List A) → is_none (find p xs) ≡ false → (position_or_len p xs < length xs) × (slice_get xs (position_or_len p xs) ≡ find p xs)
 found_place p [] e = absurd (true≢false e)
 found_place p (x ∷ xs) e = by (p x) e (found_place p xs)
   where
@@ -61,7 +61,7 @@ found_place p (x ∷ xs) e = by (p x) e (found_place p xs)
         let h : (position_or_len p xs < length xs) × (slice_get xs (position_or_len p xs) ≡ find p xs) = later e in
         (omega (arith, h.0), ap (λ n. slice_get (x ∷ xs) n) (one_more (position_or_len p xs)) ∙ h.1)
 
-found_position : {A : Type 0} (p : A → Bool) (xs : List A) → is_none (find p xs) ≡ false → position p xs ≡ Some (position_or_len p xs)
+pub found_position : {A : Type 0} (p : A → Bool) (xs : List A) → is_none (find p xs) ≡ false → position p xs ≡ Some (position_or_len p xs)
 found_position p xs e = ap (λ b. cond b (Some (position_or_len p xs)) None) (lt-ltb (position_or_len p xs) (length xs) (found_place p xs e).0)
 
 each_given : {A B : Type 0} (P : A → Type 0) (Q : B → Type 0) (f : A → Option B) → ((x : A) (y : B) → P x → f x ≡ Some y → Q y) → (xs : List A) → Each P xs → Each Q (filter_map f xs)
@@ -283,23 +283,49 @@ right_later defs e d h =
 abbrev AllRight : List TableDef → Type 0
 AllRight defs = Each (Right defs) defs
 
+-- the row movement tells nothing of it
 abbrev IsRight : Base → Type 0
-IsRight base = AllRight (defs_of base)
+IsRight base = AllRight (map still (defs_of base))
+
+pub def_still : (defs : List TableDef) (n : ℕ) → def_at (map still defs) n ≡ still (def_at defs n)
+def_still [] n = refl
+def_still (d ∷ defs) zero = refl
+def_still (d ∷ defs) (suc n) = def_still defs n
+
+refers_still : (defs : List TableDef) (f : ForeignDef) → RefersTo defs f → RefersTo (map still defs) f
+refers_still defs f h =
+    let many : length (map still defs) ≡ length defs = length-map defs still in
+    (omega (arith, h.0), ap (λ (d : TableDef). is_key d f.to) (def_still defs f.table) ∙ h.1)
+
+refers_back : (defs : List TableDef) (f : ForeignDef) → RefersTo (map still defs) f → RefersTo defs f
+refers_back defs f h =
+    let many : length (map still defs) ≡ length defs = length-map defs still in
+    (omega (arith, h.0), sym (ap (λ (d : TableDef). is_key d f.to) (def_still defs f.table)) ∙ h.1)
+
+right_still : (defs : List TableDef) (d : TableDef) → Right defs d → Right (map still defs) (still d)
+right_still defs d h =
+    record { keys = h.keys; foreign = h.foreign; parents = each_weaker (RefersTo defs) (RefersTo (map still defs)) (refers_still defs) d.foreign h.parents; part_key = h.part_key; names = h.names }
+
+right_back : (defs : List TableDef) (d : TableDef) → Right (map still defs) (still d) → Right defs d
+right_back defs d h =
+    record { keys = h.keys; foreign = h.foreign; parents = each_weaker (RefersTo (map still defs)) (RefersTo defs) (refers_back defs) d.foreign h.parents; part_key = h.part_key; names = h.names }
 
 keep_right : KeepsBase IsRight
 keep_right =
     record {
       none = tt;
-      asked = λ kept p s a passes h. subst AllRight (sym (with_table_defs p.base a.table (table_after (table_at p.base a.table) a.changes) refl)) h;
+      asked = λ kept p s a passes h. subst AllRight (sym (ap (map still) (with_table_defs p.base a.table (table_after (table_at p.base a.table) (made_of p.base a)) refl))) h;
       created = λ taken base t fits h.
           let defs : List TableDef = defs_of base in
           let new : TableDef = table_def defs t in
-          subst AllRight (sym (map-append (λ (t : Table). t.def) base (defined defs t ∷ [])))
-          (each_append (Right (defs ++ new ∷ [])) defs (new ∷ []) (each_weaker (Right defs) (Right (defs ++ new ∷ [])) (right_later defs new) defs h)
-          (right_later defs new new (new_right taken defs t fits), tt));
-      cut = λ base n change a same h.
+          let stills : List TableDef = map still defs in
+          let last : Right (map still (defs ++ new ∷ [])) (still new) = right_still (defs ++ new ∷ []) new (right_later defs new new (new_right taken defs t fits)) in
+          subst AllRight (sym (ap (map still) (map-append (λ (t : Table). t.def) base (defined defs t ∷ [])) ∙ map-append still defs (new ∷ [])))
+          (each_append (Right (stills ++ still new ∷ [])) stills (still new ∷ []) (each_weaker (Right stills) (Right (stills ++ still new ∷ [])) (right_later stills (still new)) stills h)
+          (subst (λ ds. Right ds (still new)) (map-append still defs (new ∷ [])) last, tt));
+      cut = λ kept base n change a same h.
           subst AllRight
-          (sym (with_table_defs base n a.table (ok_holds (HasDef (table_at base n)) (alter_part base n (table_at base n) change) a (part_keeps base n (table_at base n) change) same))) h;
+          (sym (with_table_still base n a.table (ok_holds (HasDef (table_at base n)) (alter_part kept base n (table_at base n) change) a (part_keeps kept base n (table_at base n) change) same))) h;
     }
 
 right_defined : (defs : List TableDef) (d : TableDef) → Right defs d → IsDefined defs d
@@ -315,4 +341,5 @@ right_defined defs d h =
 pub trace_defined : (trace : List Event) → All (IsDefined (defs_now (catalog_of trace))) (defs_now (catalog_of trace))
 trace_defined trace =
     let defs : List TableDef = defs_now (catalog_of trace) in
-    all_from (IsDefined defs) defs (each_weaker (Right defs) (IsDefined defs) (right_defined defs) defs (base_holds IsRight keep_right trace))
+    all_from (IsDefined defs) defs
+    (each_weaker (λ d. Right (map still defs) (still d)) (IsDefined defs) (λ d h. right_defined defs d (right_back defs d h)) defs (each_unmap (Right (map still defs)) still defs (base_holds IsRight keep_right trace)))

@@ -1,110 +1,34 @@
 -- Each row fits its table, and no table has too many.
 use Rattle.std.proofs.Common.{◌≡◌, ◌∙◌, sym, ap, refl, subst, arith, ℕ, suc, ◌+◌, ◌≤◌, Bool, true, false, cond, not, List, [], ◌∷◌, ◌++◌, length, map, Option, None, Some, ◌==◌, ◌&&◌, ◌||◌, true≢false}
-use Rattle.std.specs.List.{enumerate_from, filter, find, fold, list_any}
+use Rattle.std.specs.List.{enumerate_from, filter, find, list_any}
 use Rattle.std.specs.Ordering.{is_ge, is_lt}
-use Rattle.std.specs.Prelude.{count_by, is_none, zip}
+use Rattle.std.specs.Prelude.{count_by, is_none, option_map}
 use Rattle.std.specs.declared.cmp.Ordering.{Ordering}
 use Rattle.std.specs.declared.cmp.Ordering.TheVariants.{Equal, Greater, Less}
-use Rattle.std.proofs.lemmas.List.{length-map}
+use Rattle.std.proofs.lemmas.List.{length-append}
 use Rattle.std.proofs.lemmas.List.Sums.{count_by-le-length, length-filter}
-use Rattle.std.proofs.lemmas.List.FromFn.{length-enumerate_from}
-use Rattle.wh_base.specs.Lists.{first_of, option_case, where_true}
-use Rattle.wh_base.specs.Tables.{Row, Table, mark_of, part_of_key, row_key, rows_after, table_after, table_at, with_intervals}
+use Rattle.wh_base.specs.Lists.{option_case}
+use Rattle.wh_base.specs.Tables.{Row, Table, mark_of, part_of_key, row_key, table_at, with_intervals}
 use Rattle.wh_base.specs.Values.{interval_has, value_cmp}
-use Rattle.wh_base.specs.declared.replies.Refusal.{Refusal}
-use Rattle.wh_base.specs.declared.replies.Refusal.TheVariants.{NoPartition, RowMovement}
 use Rattle.wh_base.specs.declared.statements.Event.{Event}
 use Rattle.wh_base.specs.declared.statements.NewRange.{NewRange}
-use Rattle.wh_base.specs.declared.statements.SetColumn.{SetColumn}
-use Rattle.wh_base.specs.declared.tables.Change.{Change}
 use Rattle.wh_base.specs.declared.tables.Part.{Part}
-use Rattle.wh_base.specs.declared.tables.TableDef.{TableDef}
 use Rattle.wh_base.specs.declared.values.Interval.{Interval}
 use Rattle.wh_base.specs.declared.values.Value.{Value}
-use Rattle.def_effect.specs.Block.{changed_row_refusal, column_refusal, deleted_change, has_no_partition, insert_changes, inserted_change, max_rows, moves_row, new_row_refusal, set_or_old, set_value, updated_change, updated_row}
-use Rattle.def_effect.specs.Partitions.{added, added_part, dropped, truncated, without_rows}
+use Rattle.def_effect.specs.Block.{max_rows}
+use Rattle.def_effect.specs.Partitions.{added, added_part, dropped, is_row_of, moved_rows, regrouped, replaced, truncated, with_movement, without_rows}
 use Rattle.def_history.specs.Catalog.{base_now}
-use Rattle.wh_trace.proofs.Asking.{Deletes, Inserts, IsWide, Shape, Updates, shape_of}
-use Rattle.wh_trace.proofs.Basing.{KeepsTable, asked_changes, each_table, made, none_each, none_first, none_rest, none_where}
+use Rattle.wh_trace.proofs.Basing.{KeepsTable, Regroups, asked_changes, each_table, made, made_of}
 use Rattle.wh_trace.proofs.Finishing.{finished}
-use Rattle.wh_trace.proofs.Listed.{Each, each_append, each_filter, each_map, each_two, each_unmap, each_weaker, some_same}
-use Rattle.wh_trace.proofs.Rising.{changed_row, fold_keeps}
+use Rattle.wh_trace.proofs.Listed.{Each, each_append, each_filter, each_two, each_weaker, some_same}
+use Rattle.wh_trace.proofs.Bordering.{PartsRight, keep_parts, spans_of}
+use Rattle.wh_trace.proofs.Marks.{found_part}
+use Rattle.wh_trace.proofs.Marks.{is_below as is_below_part}
+use Rattle.wh_trace.proofs.Regrouping.{Spans, any_below}
+pub use Rattle.wh_trace.proofs.Rising.{AllFit, RowsFit}
+use Rattle.wh_trace.proofs.Rising.{Rises, Sound, fewer_rise, moved_many, regrouped_rises, sound_after, steps_made}
 use Rattle.wh_trace.specs.Reached.{catalog_of}
 use Rattle.wh_trace.specs.Rows.{Fits}
-
--- ---- a row that is not refused
-
-fits_new : (t : Table) (old : Option (List Value)) (new : List Value) → IsWide t.def new → new_row_refusal t old new ≡ None → Fits t new
-fits_new t old new wide none =
-    let columns : Option Refusal = first_of (column_refusal t.def) (zip t.def.columns new) in
-    let placed : Option Refusal = where_true (has_no_partition t new) (NoPartition t.def.name) in
-    let moved : Option Refusal = where_true (moves_row t old new) (RowMovement t.def.name) in
-    record {
-      width = wide;
-      columns = none_first columns (placed ∷ moved ∷ []) none;
-      placed = none_where (has_no_partition t new) (NoPartition t.def.name) (none_first placed (moved ∷ []) (none_rest columns (placed ∷ moved ∷ []) none));
-    }
-
-abbrev pub RowsFit : Table → List Row → Type 0
-RowsFit t rows = Each (λ r. Fits t r.values) rows
-
--- ---- the rows after the changes of a statement
-
-fold_each : {A : Type 0} (P : List Row → Type 0) (Q : A → Type 0) (f : A → Change) → ((rows : List Row) (x : A) → Q x → P rows → P (rows_after rows (f x)))
-    → (xs : List A) (rows : List Row) → Each Q xs → P rows → P (fold rows_after rows (map f xs))
-fold_each P Q f k [] rows each h = h
-fold_each P Q f k (x ∷ xs) rows each h = fold_each P Q f k xs (rows_after rows (f x)) each.1 (k rows x each.0 h)
-
-abbrev FitsNumbered : Table → ℕ × List Value → Type 0
-FitsNumbered t p = Fits t p.1
-
-numbered_wide : (d : TableDef) (m : ℕ) (rows : List (List Value)) → Each (IsWide d) rows → Each (λ p. IsWide d p.1) (enumerate_from m rows)
-numbered_wide d m [] h = tt
-numbered_wide d m (vs ∷ rows) h = (h.0, numbered_wide d (m + 1) rows h.1)
-
-fit_inserts : (t : Table) (rows : List (List Value)) → Each (IsWide t.def) rows → Each (λ c. changed_row_refusal t c ≡ None) (insert_changes t rows) → RowsFit t t.rows
-    → RowsFit t (fold rows_after t.rows (insert_changes t rows))
-fit_inserts t rows wide passes h =
-    let numbered : List (ℕ × List Value) = enumerate_from (suc t.given) rows in
-    fold_each (RowsFit t) (FitsNumbered t) inserted_change
-    (λ rows p fits h. each_append (λ r. Fits t r.values) rows (record { rowid = p.0; values = p.1 } ∷ []) h (fits, tt)) numbered t.rows
-    (each_weaker (λ p. IsWide t.def p.1 × (changed_row_refusal t (inserted_change p) ≡ None)) (FitsNumbered t) (λ p both. fits_new t None p.1 both.0 both.1) numbered
-    (each_two (λ p. IsWide t.def p.1) (λ p. changed_row_refusal t (inserted_change p) ≡ None) numbered (numbered_wide t.def (suc t.given) rows wide)
-    (each_unmap (λ c. changed_row_refusal t c ≡ None) inserted_change numbered passes))) h
-
-abbrev FitsUpdated : Table → List SetColumn → Row → Type 0
-FitsUpdated t sets r = Fits t (updated_row t.def sets r.values)
-
-updated_wide : (d : TableDef) (sets : List SetColumn) (old : List Value) → IsWide d old → IsWide d (updated_row d sets old)
-updated_wide d sets old wide = length-map (enumerate_from 0 old) (set_or_old (map (set_value d old) sets)) ∙ length-enumerate_from 0 old ∙ wide
-
-changed_fits : (t : Table) (n : ℕ) (new : List Value) → Fits t new → (q : Row) → Fits t q.values → Fits t (changed_row n new q).values
-changed_fits t n new fits q h = by (q.rowid == n)
-  where
-    by : (b : Bool) → Fits t (cond b (record { rowid = q.rowid; values = new }) q).values
-    by true = fits
-    by false = h
-
-fit_updates : (t : Table) (sets : List SetColumn) (p : Row → Bool) → Each (λ c. changed_row_refusal t c ≡ None) (map (updated_change t.def sets) (filter p t.rows)) → RowsFit t t.rows
-    → RowsFit t (fold rows_after t.rows (map (updated_change t.def sets) (filter p t.rows)))
-fit_updates t sets p passes h =
-    let met : List Row = filter p t.rows in
-    fold_each (RowsFit t) (FitsUpdated t sets) (updated_change t.def sets)
-    (λ rows r fits h. each_map (λ q. Fits t q.values) (λ q. Fits t q.values) (changed_row r.rowid (updated_row t.def sets r.values)) (changed_fits t r.rowid (updated_row t.def sets r.values) fits) rows h) met t.rows
-    (each_weaker (λ r. Fits t r.values × (changed_row_refusal t (updated_change t.def sets r) ≡ None)) (FitsUpdated t sets)
-    (λ r both. fits_new t (Some r.values) (updated_row t.def sets r.values) (updated_wide t.def sets r.values both.0.width) both.1) met
-    (each_two (λ r. Fits t r.values) (λ r. changed_row_refusal t (updated_change t.def sets r) ≡ None) met (each_filter (λ r. Fits t r.values) p t.rows h)
-    (each_unmap (λ c. changed_row_refusal t c ≡ None) (updated_change t.def sets) met passes))) h
-
-fit_deletes : (t : Table) (p : Row → Bool) → RowsFit t t.rows → RowsFit t (fold rows_after t.rows (map deleted_change (filter p t.rows)))
-fit_deletes t p h = fold_keeps (RowsFit t) deleted_change (λ rows r h. each_filter (λ r. Fits t r.values) _ rows h) (filter p t.rows) t.rows h
-
-fit_after : (t : Table) (changes : List Change) → Shape t changes → Each (λ c. changed_row_refusal t c ≡ None) changes → RowsFit t t.rows → RowsFit t (fold rows_after t.rows changes)
-fit_after t changes (Inserts rows wide is) passes h =
-    subst (λ cs. RowsFit t (fold rows_after t.rows cs)) (sym is) (fit_inserts t rows wide (subst (Each (λ c. changed_row_refusal t c ≡ None)) is passes) h)
-fit_after t changes (Updates sets p is) passes h =
-    subst (λ cs. RowsFit t (fold rows_after t.rows cs)) (sym is) (fit_updates t sets p (subst (Each (λ c. changed_row_refusal t c ≡ None)) is passes) h)
-fit_after t changes (Deletes p is) passes h = subst (λ cs. RowsFit t (fold rows_after t.rows cs)) (sym is) (fit_deletes t p h)
 
 -- ---- partitions that come and go
 
@@ -247,33 +171,111 @@ each_passed p (x ∷ xs) = by (p x) refl (each_passed p xs)
 
 -- ---- a table
 
-abbrev pub AllFit : Table → Type 0
-AllFit t = RowsFit t t.rows
+-- a key has a partition where it is below a bound
+any_joined : {A : Type 0} (p : A → Bool) (xs ys : List A) → list_any p (xs ++ ys) ≡ (list_any p xs || list_any p ys)
+any_joined p [] ys = refl
+any_joined p (x ∷ xs) ys = ap (λ b. p x || b) (any_joined p xs ys) ∙ sym (or_assoc (p x) (list_any p xs) (list_any p ys))
+  where
+    or_assoc : (a b c : Bool) → ((a || b) || c) ≡ (a || (b || c))
+    or_assoc true b c = refl
+    or_assoc false b c = refl
 
-fits_after : (t : Table) (changes : List Change) (vs : List Value) → Fits t vs → Fits (table_after t changes) vs
-fits_after t changes vs h = record { width = h.width; columns = h.columns; placed = h.placed }
+none_any : {A : Type 0} (p : A → Bool) (xs : List A) → is_none (find p xs) ≡ not (list_any p xs)
+none_any p [] = refl
+none_any p (x ∷ xs) = by (p x) (none_any p xs)
+  where
+    by : (b : Bool) → is_none (find p xs) ≡ not (list_any p xs) → is_none (cond b (Some x) (find p xs)) ≡ not (b || list_any p xs)
+    by true h = refl
+    by false h = h
 
-keep_fits : KeepsTable AllFit
-keep_fits =
+none_mapped : {A B : Type 0} (f : A → B) (o : Option A) → is_none o ≡ is_none (option_map f o)
+none_mapped f None = refl
+none_mapped f (Some x) = refl
+
+no_part : (t : Table) (key : Value) → is_none (part_of_key t key) ≡ not (any_below key t.parts)
+no_part t key = none_mapped (λ (p : Part × Interval). p.0) (part_of_key t key) ∙ ap is_none (found_part t key) ∙ none_any (is_below_part key) t.parts
+
+-- the new partitions take what those that end had
+same_below : (parts news : List Part) (before after : List (Part × Interval)) (sp : Spans parts before after) (key : Value) → any_below key (sp.front ++ (sp.news ++ sp.back)) ≡ any_below key parts
+same_below parts news before after sp key =
+    any_joined (is_below_part key) sp.front (sp.news ++ sp.back)
+    ∙ ap (λ b. any_below key sp.front || b) (any_joined (is_below_part key) sp.news sp.back ∙ ap (λ b. b || any_below key sp.back) (sym (sp.covers key)) ∙ sym (any_joined (is_below_part key) sp.mid sp.back))
+    ∙ sym (any_joined (is_below_part key) sp.front (sp.mid ++ sp.back))
+    ∙ ap (any_below key) (sym sp.is)
+
+pub regrouped_parts : (t : Table) (before after : List (Part × Interval)) (sp : Spans t.parts before after) → (regrouped t before after).table.parts ≡ sp.front ++ (sp.news ++ sp.back)
+regrouped_parts t before after sp = (λ i. replaced (sp.ended i) (sp.new i) t.parts) ∙ sp.replaced_by
+
+-- the rows fit wherever each of them does that has a partition
+regrouped_fits : (kept : ℕ) (t : Table) (before after : List (Part × Interval)) → Regroups kept t before after → PartsRight t → AllFit t → AllFit (regrouped t before after).table
+regrouped_fits kept t before after groups right h =
+    each_append (λ r. Fits u r.values) (filter (λ r. not (is_row_of ended t r)) t.rows) (moved_rows t ended)
+    (each_weaker (λ r. Fits t r.values) (λ r. Fits u r.values) (λ r. fit r.values) (filter (λ r. not (is_row_of ended t r)) t.rows) (each_filter (λ r. Fits t r.values) (λ r. not (is_row_of ended t r)) t.rows h))
+    (all_numbered (suc t.given) (filter (is_row_of ended t) t.rows) (each_filter (λ r. Fits t r.values) (is_row_of ended t) t.rows h))
+  where
+    u : Table
+    u = (regrouped t before after).table
+
+    ended : List ℕ
+    ended = map (λ p. p.0.number) before
+
+    sp : Spans t.parts before after
+    sp = spans_of kept t before after groups right
+
+    placed : (o : Option Value) → option_case o false (λ key. is_none (part_of_key t key)) ≡ false → option_case o false (λ key. is_none (part_of_key u key)) ≡ false
+    placed None e = refl
+    placed (Some key) e =
+        no_part u key ∙ ap not (ap (any_below key) (regrouped_parts t before after sp) ∙ same_below t.parts sp.news before after sp key) ∙ sym (no_part t key) ∙ e
+
+    fit : (vs : List Value) → Fits t vs → Fits u vs
+    fit vs k = record { width = k.width; columns = k.columns; placed = placed (row_key t vs) k.placed }
+
+    all_numbered : (m : ℕ) (rs : List Row) → Each (λ r. Fits t r.values) rs → Each (λ (r : Row). Fits u r.values) (map (λ p. record { rowid = p.0; values = p.1.values }) (enumerate_from m rs))
+    all_numbered m [] k = tt
+    all_numbered m (r ∷ rs) k = (fit r.values k.0, all_numbered (m + 1) rs k.1)
+
+abbrev pub Right : Table → Type 0
+Right t = Sound t × PartsRight t
+
+keep_right : KeepsTable Right
+keep_right =
     record {
-      asked = λ kept p s a passes same h.
-          let t : Table = table_at p.base a.table in
-          each_weaker (λ r. Fits t r.values) (λ r. Fits (table_after t a.changes) r.values) (λ r. fits_after t a.changes r.values) (fold rows_after t.rows a.changes)
-          (fit_after t a.changes (shape_of p.base s a passes.asks) (none_each (changed_row_refusal t) a.changes passes.rows) h);
-      created = λ taken defs t fits. tt;
+      asked = λ kept p s a passes same h. (sound_after (table_at p.base a.table) (made_of p.base a) (steps_made kept p s a passes h.0) h.0, keep_parts.asked kept p s a passes same h.1);
+      created = λ taken defs t fits. (((tt, tt), tt), keep_parts.created taken defs t fits);
       cut = record {
-        adds = λ t r key none h. each_weaker (λ q. Fits t q.values) (λ q. Fits (added t r).table q.values) (λ q. fits_added t r q.values) t.rows h;
-        truncates = λ base n t p none h.
-            each_weaker (λ q. Fits t q.values) (λ q. Fits (truncated t p).table q.values) (λ q. fits_truncated t p q.values) (without_rows t p.0) (each_filter (λ q. Fits t q.values) _ t.rows h);
-        drops = λ base n t p none h.
+        adds = λ t r key none h. ((h.0.0, each_weaker (λ q. Fits t q.values) (λ q. Fits (added t r).table q.values) (λ q. fits_added t r q.values) t.rows h.0.1), keep_parts.cut.adds t r key none h.1);
+        truncates = λ base n t p none h. (
+          (
+            fewer_rise t (λ r. not (mark_of t r.values == p.0.number)) h.0.0,
+            each_weaker (λ q. Fits t q.values) (λ q. Fits (truncated t p).table q.values) (λ q. fits_truncated t p q.values) (without_rows t p.0) (each_filter (λ q. Fits t q.values) (λ r. not (mark_of t r.values == p.0.number)) t.rows h.0.1),
+          ),
+          h.1,
+        );
+        drops = λ base n t p none h. (
+          (
+            fewer_rise t (λ r. not (mark_of t r.values == p.0.number)) h.0.0,
             each_weaker (λ q. Fits t q.values × IsOutside t p.0.number q) (λ q. Fits (dropped t p).table q.values) (λ q both. fits_dropped t p q both.0 both.1) (without_rows t p.0)
-            (each_two (λ q. Fits t q.values) (IsOutside t p.0.number) (without_rows t p.0) (each_filter (λ q. Fits t q.values) _ t.rows h)
-            (each_passed (λ q. not (mark_of t q.values == p.0.number)) t.rows));
+                (each_two (λ q. Fits t q.values) (IsOutside t p.0.number) (without_rows t p.0) (each_filter (λ q. Fits t q.values) (λ r. not (mark_of t r.values == p.0.number)) t.rows h.0.1)
+                (each_passed (λ q. not (mark_of t q.values == p.0.number)) t.rows)),
+          ),
+          keep_parts.cut.drops base n t p none h.1,
+        );
+        regroups = λ kept t before after groups h. ((regrouped_rises t before after h.0.0, regrouped_fits kept t before after groups h.1 h.0.1), keep_parts.cut.regroups kept t before after groups h.1);
+        moves = λ t on h. ((h.0.0, each_weaker (λ r. Fits t r.values) (λ r. Fits (with_movement t on).table r.values) (λ r k. record { width = k.width; columns = k.columns; placed = k.placed }) t.rows h.0.1), h.1);
       };
     }
 
+trace_right : (trace : List Event) → Each Right (base_now (catalog_of trace))
+trace_right trace = each_table Right keep_right trace
+
+pub trace_sound : (trace : List Event) → Each Sound (base_now (catalog_of trace))
+trace_sound trace = each_weaker Right Sound (λ t h. h.0) (base_now (catalog_of trace)) (trace_right trace)
+
+pub trace_rises : (trace : List Event) → Each Rises (base_now (catalog_of trace))
+trace_rises trace = each_weaker Right Rises (λ t h. h.0.0) (base_now (catalog_of trace)) (trace_right trace)
+
 pub trace_fits : (trace : List Event) → Each AllFit (base_now (catalog_of trace))
-trace_fits trace = each_table AllFit keep_fits trace
+trace_fits trace = each_weaker Right AllFit (λ t h. h.0.1) (base_now (catalog_of trace)) (trace_right trace)
 
 -- ---- how many rows
 
@@ -286,18 +288,40 @@ fewer_few t p h =
     let most : count_by p t.rows ≤ length t.rows = count_by-le-length p t.rows in
     omega (arith, h)
 
+parted : {A : Type 0} (p : A → Bool) (xs : List A) → length (filter (λ x. not (p x)) xs) + length (filter p xs) ≡ length xs
+parted p [] = refl
+parted p (x ∷ xs) = by (p x) (parted p xs)
+  where
+    by : (b : Bool) → length (filter (λ x. not (p x)) xs) + length (filter p xs) ≡ length xs
+        → length (cond (not b) (x ∷ filter (λ x. not (p x)) xs) (filter (λ x. not (p x)) xs)) + length (cond b (x ∷ filter p xs) (filter p xs)) ≡ length (x ∷ xs)
+    by true h = omega (arith, h)
+    by false h = omega (arith, h)
+
+-- a SPLIT or MERGE leaves as many rows
+pub regrouped_many : (t : Table) (before after : List (Part × Interval)) → length (regrouped t before after).table.rows ≡ length t.rows
+regrouped_many t before after =
+    let ended : List ℕ = map (λ p. p.0.number) before in
+    length-append (filter (λ r. not (is_row_of ended t r)) t.rows) (moved_rows t ended)
+    ∙ ap (λ n. length (filter (λ r. not (is_row_of ended t r)) t.rows) + n) (moved_many t ended)
+    ∙ parted (is_row_of ended t) t.rows
+
+same_few : {m n : ℕ} → m ≡ n → n ≤ max_rows → m ≤ max_rows
+same_few e h = omega (arith, e, h)
+
 few_of : (t u : Table) → t ≡ u → IsFew t → IsFew u
 few_of t u same h = subst IsFew same h
 
 keep_few : KeepsTable IsFew
 keep_few =
     record {
-      asked = λ kept p s a passes same h. few_of _ _ same (finished (made p.base a) a.table kept (p.changes ++ asked_changes a) passes.whole).few;
+      asked = λ kept p s a passes same h. few_of _ _ same (finished (made p.base a) a.table kept (p.changes ++ asked_changes p.base a) passes.whole).few;
       created = λ taken defs t fits. omega arith;
       cut = record {
         adds = λ t r key none h. h;
         truncates = λ base n t p none h. fewer_few t _ h;
         drops = λ base n t p none h. fewer_few t _ h;
+        regroups = λ kept t before after groups h. same_few (regrouped_many t before after) h;
+        moves = λ t on h. h;
       };
     }
 

@@ -7,14 +7,15 @@ use Rattle.wh_base.specs.Tables.{Base, Table, with_table}
 use Rattle.wh_base.specs.declared.statements.Event.{Event}
 use Rattle.def_effect.specs.Block.{Progress}
 use Rattle.def_effect.specs.Define.{defined}
-use Rattle.def_history.specs.Catalog.{Catalog, Noted, Touched, base_at, base_now, defs_now, empty_catalog}
+use Rattle.def_history.specs.Catalog.{Catalog, Noted, Renumbered, Touched, base_at, base_now, defs_now, empty_catalog}
 use Rattle.def_history.specs.History.{noted_changes, noted_touches, within}
 use Rattle.def_journal.specs.Committing.{after_block, commit_touches, do_dues, noted, part_touch, touched_parts, changes_in}
 use Rattle.def_journal.specs.Journal.{state_after, state_of}
 use Rattle.def_journal.specs.State.{State, empty_state}
-use Rattle.wh_trace.proofs.Due.{KeepsDue, dues_keep}
-use Rattle.wh_trace.proofs.Listed.{Each, Pairs, all_from, and_false, each_append, each_flat, each_made, each_weaker, filter_behind, find_behind, le_false, le_true, pairs_append, pairs_from, pairs_level, pairs_push}
-use Rattle.wh_trace.proofs.Moves.{Adds, Alters, Commits, Creates, Declares, Drops, Forgets, Installs, Logs, Move, Purges, Stays, Switches, Withdraws}
+use Rattle.def_journal.specs.Statements.{renumbered}
+use Rattle.wh_trace.proofs.Due.{KeepsDue, dues_keep, installs_keep}
+use Rattle.wh_trace.proofs.Listed.{Each, Pairs, all_from, and_false, each_append, each_every, each_flat, each_made, each_weaker, filter_behind, find_behind, le_false, le_true, pairs_append, pairs_from, pairs_level, pairs_push}
+use Rattle.wh_trace.proofs.Moves.{Adds, Alters, Commits, Creates, Declares, Drops, Forgets, Installs, Logs, Move, Purges, Stays, Switches, Withdraws, installed}
 use Rattle.wh_trace.proofs.Stepping.{moves}
 use Rattle.wh_trace.proofs.Traces.{state_more}
 use Rattle.wh_trace.specs.Laws.{BaseLaws, ChangeLaws}
@@ -48,6 +49,9 @@ pub record Grows (c d : Catalog) : Type 0 where
   pub touches : d.touches ≡ c.touches ++ touched
   pub touched_recent : Each (λ t. Between c.scn d.scn t.touch.scn) touched
   pub touched_rising : Pairs IsNotTouchedLater touched
+  pub given : List Renumbered
+  pub renumbered : d.renumbered ≡ c.renumbered ++ given
+  pub given_recent : Each (λ n. Between c.scn d.scn n.scn) given
 
 -- another catalog with the same past
 pub record SamePast (c d : Catalog) : Type 0 where
@@ -56,9 +60,10 @@ pub record SamePast (c d : Catalog) : Type 0 where
   pub past : d.past ≡ c.past
   pub changes : d.changes ≡ c.changes
   pub touches : d.touches ≡ c.touches
+  pub renumbered : d.renumbered ≡ c.renumbered
 
-grows_flat : (c d : Catalog) → c.scn ≤ d.scn → c.oldest ≤ d.oldest → d.past ≡ c.past → d.changes ≡ c.changes → d.touches ≡ c.touches → Grows c d
-grows_flat c d scn oldest past changes touches =
+grows_flat : (c d : Catalog) → c.scn ≤ d.scn → c.oldest ≤ d.oldest → d.past ≡ c.past → d.changes ≡ c.changes → d.touches ≡ c.touches → d.renumbered ≡ c.renumbered → Grows c d
+grows_flat c d scn oldest past changes touches renumbered =
     record {
       scn = scn;
       oldest = oldest;
@@ -74,12 +79,16 @@ grows_flat c d scn oldest past changes touches =
       touches = touches ∙ sym (append-nil c.touches);
       touched_recent = tt;
       touched_rising = tt;
+      given = [];
+      renumbered = renumbered ∙ sym (append-nil c.renumbered);
+      given_recent = tt;
     }
 
 -- one base state more, with changes and touches, at the next SCN
-grows_based : (c d : Catalog) (base : Base) (news : List Noted) (touched : List Touched) → d.scn ≡ suc c.scn → d.oldest ≡ c.oldest → d.past ≡ (suc c.scn, base) ∷ c.past
-    → d.changes ≡ c.changes ++ news → Each (λ n. n.scn ≡ suc c.scn) news → d.touches ≡ c.touches ++ touched → Each (λ t. t.touch.scn ≡ suc c.scn) touched → Grows c d
-grows_based c d base news touched scn oldest past changes news_at touches touched_at =
+grows_based : (c d : Catalog) (base : Base) (news : List Noted) (touched : List Touched) (given : List Renumbered) → d.scn ≡ suc c.scn → d.oldest ≡ c.oldest → d.past ≡ (suc c.scn, base) ∷ c.past
+    → d.changes ≡ c.changes ++ news → Each (λ n. n.scn ≡ suc c.scn) news → d.touches ≡ c.touches ++ touched → Each (λ t. t.touch.scn ≡ suc c.scn) touched
+    → d.renumbered ≡ c.renumbered ++ given → Each (λ n. n.scn ≡ suc c.scn) given → Grows c d
+grows_based c d base news touched given scn oldest past changes news_at touches touched_at renumbered given_at =
     record {
       scn = omega arith;
       oldest = omega arith;
@@ -95,6 +104,9 @@ grows_based c d base news touched scn oldest past changes news_at touches touche
       touches = touches;
       touched_recent = each_weaker (λ t. t.touch.scn ≡ suc c.scn) (λ t. Between c.scn d.scn t.touch.scn) (λ t at. (omega arith, omega arith)) touched touched_at;
       touched_rising = pairs_level (λ (t : Touched). t.touch.scn) (suc c.scn) touched touched_at;
+      given = given;
+      renumbered = renumbered;
+      given_recent = each_weaker (λ n. n.scn ≡ suc c.scn) (λ n. Between c.scn d.scn n.scn) (λ n at. (omega arith, omega arith)) given given_at;
     }
 
 grows_on : (c d e : Catalog) → Grows c d → Grows d e → Grows c e
@@ -128,18 +140,23 @@ grows_on c d e h k =
       touched_rising = pairs_append IsNotTouchedLater h.touched k.touched h.touched_rising k.touched_rising
           (each_weaker (λ t. Between c.scn d.scn t.touch.scn) (λ t. Each (IsNotTouchedLater t) k.touched)
           (λ t below. each_weaker (λ u. Between d.scn e.scn u.touch.scn) (IsNotTouchedLater t) (λ u above. omega (arith, above.0, below.1)) k.touched k.touched_recent) h.touched h.touched_recent);
+      given = h.given ++ k.given;
+      renumbered = k.renumbered ∙ ap (λ ns. ns ++ k.given) h.renumbered ∙ append_assoc c.renumbered h.given k.given;
+      given_recent = each_append (λ n. Between c.scn e.scn n.scn) h.given k.given
+          (each_weaker (λ n. Between c.scn d.scn n.scn) (λ n. Between c.scn e.scn n.scn) (λ n b. (b.0, omega (arith, b.1))) h.given h.given_recent)
+          (each_weaker (λ n. Between d.scn e.scn n.scn) (λ n. Between c.scn e.scn n.scn) (λ n b. (omega (arith, b.0), b.1)) k.given k.given_recent);
     }
 
 -- ---- what an event does
 
 same_past : (c : Catalog) → SamePast c c
-same_past c = record { scn = refl; oldest = refl; past = refl; changes = refl; touches = refl }
+same_past c = record { scn = refl; oldest = refl; past = refl; changes = refl; touches = refl; renumbered = refl }
 
 due_keeps_past : (c : Catalog) → KeepsDue (SamePast c)
 due_keeps_past c =
     record {
-      suspends = λ d n h. record { scn = h.scn; oldest = h.oldest; past = h.past; changes = h.changes; touches = h.touches };
-      refreshes = λ d n h. record { scn = h.scn; oldest = h.oldest; past = h.past; changes = h.changes; touches = h.touches };
+      suspends = λ d n h. record { scn = h.scn; oldest = h.oldest; past = h.past; changes = h.changes; touches = h.touches; renumbered = h.renumbered };
+      refreshes = λ d n h. record { scn = h.scn; oldest = h.oldest; past = h.past; changes = h.changes; touches = h.touches; renumbered = h.renumbered };
     }
 
 -- the refreshes at a commit leave the past
@@ -149,32 +166,46 @@ dues_past c p = dues_keep (SamePast (after_block c p)) (due_keeps_past (after_bl
 commit_grows : (c : Catalog) (p : Progress) → Grows c (do_dues (after_block c p) p.changes).catalog
 commit_grows c p =
     let same : SamePast (after_block c p) (do_dues (after_block c p) p.changes).catalog = dues_past c p in
-    grows_based c (do_dues (after_block c p) p.changes).catalog p.base (map (noted (suc c.scn)) p.changes) (commit_touches (suc c.scn) p.base p.changes)
+    grows_based c (do_dues (after_block c p) p.changes).catalog p.base (map (noted (suc c.scn)) p.changes) (commit_touches (suc c.scn) p.base p.changes) []
     same.scn same.oldest same.past same.changes (each_made (λ n. n.scn ≡ suc c.scn) (noted (suc c.scn)) (λ change. refl) p.changes)
     same.touches
     (each_flat (λ (t : Touched). t.touch.scn ≡ suc c.scn) (λ (q : ℕ × Table). map (part_touch (suc c.scn) q.0 false) (touched_parts q.1 (changes_in p.changes q.0)))
     (λ q. each_made (λ t. t.touch.scn ≡ suc c.scn) (part_touch (suc c.scn) q.0 false) (λ part. refl) (touched_parts q.1 (changes_in p.changes q.0))) (enumerate_from 0 p.base))
+    (same.renumbered ∙ sym (append-nil c.renumbered)) tt
+
+-- installs leave the past
+pub installed_past : (c : Catalog) (ps : List (ℕ × ℕ)) → SamePast c (installed ps c)
+installed_past c ps =
+    installs_keep (SamePast c) (λ p. Unit {0}) (λ d p q h. record { scn = h.scn; oldest = h.oldest; past = h.past; changes = h.changes; touches = h.touches; renumbered = h.renumbered }) c ps
+    (each_every (λ p. Unit {0}) (λ p. tt) ps) (same_past c)
+
+installed_grows : (c : Catalog) (ps : List (ℕ × ℕ)) → Grows c (installed ps c)
+installed_grows c ps =
+    let same : SamePast c (installed ps c) = installed_past c ps in
+    grows_flat c (installed ps c) (omega (arith, same.scn)) (omega (arith, same.oldest)) same.past same.changes same.touches same.renumbered
 
 move_grows : (s : State) (x : Event) (d : Catalog) → Move s x d → Grows s.catalog d
-move_grows s x d (Stays is) = subst (Grows s.catalog) (sym is) (grows_flat s.catalog s.catalog (omega arith) (omega arith) refl refl refl)
+move_grows s x d (Stays is) = subst (Grows s.catalog) (sym is) (grows_flat s.catalog s.catalog (omega arith) (omega arith) refl refl refl refl)
 move_grows s x d (Commits p statements same block is) = subst (Grows s.catalog) (sym is) (commit_grows s.catalog p)
 move_grows s x d (Creates t new fits is) =
-    subst (Grows s.catalog) (sym is) (grows_based s.catalog _ (base_now s.catalog ++ defined (defs_now s.catalog) t ∷ []) [] [] refl refl refl (sym (append-nil s.catalog.changes)) tt (sym (append-nil s.catalog.touches)) tt)
-move_grows s x d (Alters n a same change cut is) =
+    subst (Grows s.catalog) (sym is) (grows_based s.catalog _ (base_now s.catalog ++ defined (defs_now s.catalog) t ∷ []) [] [] [] refl refl refl (sym (append-nil s.catalog.changes)) tt (sym (append-nil s.catalog.touches)) tt (sym (append-nil s.catalog.renumbered)) tt)
+move_grows s x d (Alters n a same change form cut is) =
     subst (Grows s.catalog) (sym is)
-    (grows_based s.catalog _ (with_table (base_now s.catalog) n a.table) [] (part_touch (suc s.catalog.scn) n true (a.part, a.interval) ∷ []) refl refl refl (sym (append-nil s.catalog.changes)) tt refl (refl, tt))
-move_grows s x d (Logs logs is) = subst (Grows s.catalog) (sym is) (grows_flat s.catalog _ (omega arith) (omega arith) refl refl refl)
-move_grows s x d (Purges logs is) = subst (Grows s.catalog) (sym is) (grows_flat s.catalog _ (omega arith) (omega arith) refl refl refl)
-move_grows s x d (Forgets oldest more undo is) = subst (Grows s.catalog) (sym is) (grows_flat s.catalog _ (omega arith) (omega arith) refl refl refl)
-move_grows s x d (Adds v q new is) = subst (Grows s.catalog) (sym is) (grows_flat s.catalog _ (omega arith) (omega arith) refl refl refl)
-move_grows s x d (Switches n f keeps is) = subst (Grows s.catalog) (sym is) (grows_flat s.catalog _ (omega arith) (omega arith) refl refl refl)
-move_grows s x d (Installs n b begun is) = subst (Grows s.catalog) (sym is) (grows_flat s.catalog _ (omega arith) (omega arith) refl refl refl)
-move_grows s x d (Drops n is) = subst (Grows s.catalog) (sym is) (grows_flat s.catalog _ (omega arith) (omega arith) refl refl refl)
-move_grows s x d (Declares a new is) = subst (Grows s.catalog) (sym is) (grows_flat s.catalog _ (omega arith) (omega arith) refl refl refl)
-move_grows s x d (Withdraws name is) = subst (Grows s.catalog) (sym is) (grows_flat s.catalog _ (omega arith) (omega arith) refl refl refl)
+    (grows_based s.catalog _ (with_table (base_now s.catalog) n a.table) [] (map (part_touch (suc s.catalog.scn) n true) a.touched) (map (renumbered (suc s.catalog.scn) n) a.renumbered) refl refl refl (sym (append-nil s.catalog.changes)) tt refl
+    (each_made (λ t. t.touch.scn ≡ suc s.catalog.scn) (part_touch (suc s.catalog.scn) n true) (λ part. refl) a.touched) refl
+    (each_made (λ n. n.scn ≡ suc s.catalog.scn) (renumbered (suc s.catalog.scn) n) (λ rowid. refl) a.renumbered))
+move_grows s x d (Logs logs made is) = subst (Grows s.catalog) (sym is) (grows_flat s.catalog _ (omega arith) (omega arith) refl refl refl refl)
+move_grows s x d (Purges logs purge is) = subst (Grows s.catalog) (sym is) (grows_flat s.catalog _ (omega arith) (omega arith) refl refl refl refl)
+move_grows s x d (Forgets oldest more undo is) = subst (Grows s.catalog) (sym is) (grows_flat s.catalog _ (omega arith) (omega arith) refl refl refl refl)
+move_grows s x d (Adds v w new star is) = subst (Grows s.catalog) (sym is) (grows_flat s.catalog _ (omega arith) (omega arith) refl refl refl refl)
+move_grows s x d (Switches n f keeps is) = subst (Grows s.catalog) (sym is) (grows_flat s.catalog _ (omega arith) (omega arith) refl refl refl refl)
+move_grows s x d (Installs b ps begun takes is) = subst (Grows s.catalog) (sym is) (installed_grows s.catalog ps)
+move_grows s x d (Drops n free is) = subst (Grows s.catalog) (sym is) (grows_flat s.catalog _ (omega arith) (omega arith) refl refl refl refl)
+move_grows s x d (Declares a new is) = subst (Grows s.catalog) (sym is) (grows_flat s.catalog _ (omega arith) (omega arith) refl refl refl refl)
+move_grows s x d (Withdraws name is) = subst (Grows s.catalog) (sym is) (grows_flat s.catalog _ (omega arith) (omega arith) refl refl refl refl)
 
 events_grow : (s : State) (events : List Event) → Grows s.catalog (fold state_after s events).catalog
-events_grow s [] = grows_flat s.catalog s.catalog (omega arith) (omega arith) refl refl refl
+events_grow s [] = grows_flat s.catalog s.catalog (omega arith) (omega arith) refl refl refl refl
 events_grow s (e ∷ events) =
     grows_on s.catalog (state_after s e).catalog (fold state_after (state_after s e) events).catalog (move_grows s e (state_after s e).catalog (moves s e).catalog)
     (events_grow (state_after s e) events)
@@ -227,6 +258,10 @@ changes_bounded d g =
 pub touches_bounded : (d : Catalog) → Grows empty_catalog d → Each (λ t. t.touch.scn ≤ d.scn) d.touches
 touches_bounded d g =
     subst (Each (λ t. t.touch.scn ≤ d.scn)) (sym g.touches) (each_weaker (λ t. Between 0 d.scn t.touch.scn) (λ t. t.touch.scn ≤ d.scn) (λ t b. b.1) g.touched g.touched_recent)
+
+pub renumbered_bounded : (d : Catalog) → Grows empty_catalog d → Each (λ n. n.scn ≤ d.scn) d.renumbered
+renumbered_bounded d g =
+    subst (Each (λ n. n.scn ≤ d.scn)) (sym g.renumbered) (each_weaker (λ n. Between 0 d.scn n.scn) (λ n. n.scn ≤ d.scn) (λ n b. b.1) g.given g.given_recent)
 
 -- the first of the past is the base state of now
 newest_of : (d : Catalog) → Each (λ p. p.0 ≤ d.scn) d.past → (past : List (ℕ × Base)) → d.past ≡ past → (past ≡ [] → ⊥)

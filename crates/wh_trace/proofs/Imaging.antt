@@ -2,6 +2,7 @@
 use Rattle.std.proofs.Common.{◌≡◌, ◌∙◌, sym, ap, refl, subst, ℕ, Bool, true, false, List, [], ◌∷◌, ◌++◌, Some}
 use Rattle.std.proofs.lemmas.Bool.{eqb-true}
 use Rattle.std.proofs.lemmas.List.{append_assoc}
+use Rattle.wh_base.specs.Parts.{entry_bearer}
 use Rattle.wh_base.specs.declared.statements.Event.{Event}
 use Rattle.def_history.specs.Catalog.{Catalog}
 use Rattle.def_journal.specs.Journal.{state_after, state_of}
@@ -27,17 +28,16 @@ begun_longer trace e n b h =
       asked = h.asked;
       is = longer h.front h.rest trace h.event e h.is;
       session = h.session;
-      part = h.part;
-      command = h.command;
+      begins = h.begins;
       kept = h.kept;
     }
 
-own_begun : (trace : List Event) (e : Event) (b : Begun) (y : Session) → ((own (state_of trace) e).begun ≡ Some b → HasBegun trace e.entry.session b)
-    → Turn (state_of trace) e y → y.begun ≡ Some b → HasBegun (trace ++ e ∷ []) e.entry.session b
-own_begun trace e b y h (Keeps reading begun) found = begun_longer trace e e.entry.session b (h (sym begun ∙ found))
-own_begun trace e b y h (Closes is) found = begun_longer trace e e.entry.session b (h (sym (ap (λ (x : Session). x.begun) is) ∙ found))
-own_begun trace e b y h (Opens command is) found = begun_longer trace e e.entry.session b (h (sym (ap (λ (x : Session). x.begun) is) ∙ found))
-own_begun trace e b y h (Begins r command part is) found =
+own_begun : (trace : List Event) (e : Event) (b : Begun) (y : Session) → ((own (state_of trace) e).begun ≡ Some b → HasBegun trace (entry_bearer e.entry) b)
+    → Turn (state_of trace) e y → y.begun ≡ Some b → HasBegun (trace ++ e ∷ []) (entry_bearer e.entry) b
+own_begun trace e b y h (Keeps reading begun) found = begun_longer trace e (entry_bearer e.entry) b (h (sym begun ∙ found))
+own_begun trace e b y h (Closes is) found = begun_longer trace e (entry_bearer e.entry) b (h (sym (ap (λ (x : Session). x.begun) is) ∙ found))
+own_begun trace e b y h (Opens command is) found = begun_longer trace e (entry_bearer e.entry) b (h (sym (ap (λ (x : Session). x.begun) is) ∙ found))
+own_begun trace e b y h (Begins r begins is) found =
     record {
       front = trace;
       event = e;
@@ -45,8 +45,7 @@ own_begun trace e b y h (Begins r command part is) found =
       asked = r;
       is = refl;
       session = refl;
-      part = eqb-true e.entry.part 1 part;
-      command = command;
+      begins = begins;
       kept = some_same b (begun_over (catalog_of trace) r.name) (sym found ∙ ap (λ (x : Session). x.begun) is);
     }
 own_begun trace e b y h (Ends is) found = absurd (none_not_some b (sym (ap (λ (x : Session). x.begun) is) ∙ found))
@@ -60,9 +59,9 @@ begun_more trace e h n b found = by (is_of n e) refl
 
     by : (own : Bool) → is_of n e ≡ own → HasBegun (trace ++ e ∷ []) n b
     by true is =
-        let same : e.entry.session ≡ n = eqb-true e.entry.session n is in
+        let same : (entry_bearer e.entry) ≡ n = eqb-true (entry_bearer e.entry) n is in
         subst (λ k. HasBegun (trace ++ e ∷ []) k b) same
-        (own_begun trace e b (session_of (state_after (state_of trace) e) e.entry.session) (h e.entry.session b) (moves (state_of trace) e).session
+        (own_begun trace e b (session_of (state_after (state_of trace) e) (entry_bearer e.entry)) (h (entry_bearer e.entry) b) (moves (state_of trace) e).session
         (subst (λ k. (session_of (state_after (state_of trace) e) k).begun ≡ Some b) (sym same) after))
     by false is = begun_longer trace e n b (h n b (sym (ap (λ (x : Session). x.begun) ((moves (state_of trace) e).others n is)) ∙ after))
 
@@ -83,9 +82,9 @@ opened_longer trace e n image h =
       kept = h.kept;
     }
 
-own_opened : (trace : List Event) (e : Event) (image : Catalog) (y : Session) → ((own (state_of trace) e).reading ≡ Some image → HasOpened trace e.entry.session image)
-    → Turn (state_of trace) e y → y.reading ≡ Some image → HasOpened (trace ++ e ∷ []) e.entry.session image
-own_opened trace e image y h (Keeps reading begun) found = opened_longer trace e e.entry.session image (h (sym reading ∙ found))
+own_opened : (trace : List Event) (e : Event) (image : Catalog) (y : Session) → ((own (state_of trace) e).reading ≡ Some image → HasOpened trace (entry_bearer e.entry) image)
+    → Turn (state_of trace) e y → y.reading ≡ Some image → HasOpened (trace ++ e ∷ []) (entry_bearer e.entry) image
+own_opened trace e image y h (Keeps reading begun) found = opened_longer trace e (entry_bearer e.entry) image (h (sym reading ∙ found))
 own_opened trace e image y h (Closes is) found = absurd (none_not_some image (sym (ap (λ (x : Session). x.reading) is) ∙ found))
 own_opened trace e image y h (Opens command is) found =
     record {
@@ -97,8 +96,8 @@ own_opened trace e image y h (Opens command is) found =
       command = command;
       kept = some_same image (catalog_of trace) (sym found ∙ ap (λ (x : Session). x.reading) is);
     }
-own_opened trace e image y h (Begins r command part is) found = opened_longer trace e e.entry.session image (h (sym (ap (λ (x : Session). x.reading) is) ∙ found))
-own_opened trace e image y h (Ends is) found = opened_longer trace e e.entry.session image (h (sym (ap (λ (x : Session). x.reading) is) ∙ found))
+own_opened trace e image y h (Begins r begins is) found = opened_longer trace e (entry_bearer e.entry) image (h (sym (ap (λ (x : Session). x.reading) is) ∙ found))
+own_opened trace e image y h (Ends is) found = opened_longer trace e (entry_bearer e.entry) image (h (sym (ap (λ (x : Session). x.reading) is) ∙ found))
 
 opened_more : (trace : List Event) (e : Event) → ((n : ℕ) (image : Catalog) → (session_of (state_of trace) n).reading ≡ Some image → HasOpened trace n image)
     → (n : ℕ) (image : Catalog) → (session_of (state_of (trace ++ e ∷ [])) n).reading ≡ Some image → HasOpened (trace ++ e ∷ []) n image
@@ -109,9 +108,9 @@ opened_more trace e h n image found = by (is_of n e) refl
 
     by : (own : Bool) → is_of n e ≡ own → HasOpened (trace ++ e ∷ []) n image
     by true is =
-        let same : e.entry.session ≡ n = eqb-true e.entry.session n is in
+        let same : (entry_bearer e.entry) ≡ n = eqb-true (entry_bearer e.entry) n is in
         subst (λ k. HasOpened (trace ++ e ∷ []) k image) same
-        (own_opened trace e image (session_of (state_after (state_of trace) e) e.entry.session) (h e.entry.session image) (moves (state_of trace) e).session
+        (own_opened trace e image (session_of (state_after (state_of trace) e) (entry_bearer e.entry)) (h (entry_bearer e.entry) image) (moves (state_of trace) e).session
         (subst (λ k. (session_of (state_after (state_of trace) e) k).reading ≡ Some image) (sym same) after))
     by false is = opened_longer trace e n image (h n image (sym (ap (λ (x : Session). x.reading) ((moves (state_of trace) e).others n is)) ∙ after))
 

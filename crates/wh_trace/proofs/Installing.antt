@@ -15,7 +15,7 @@ use Rattle.wh_trace.proofs.Growing.{Grows, base_stays, trace_grows}
 use Rattle.wh_trace.proofs.Imaging.{all_begun}
 use Rattle.wh_trace.proofs.Listed.{each_found}
 use Rattle.wh_trace.proofs.Pointing.{trace_pointed}
-use Rattle.wh_trace.proofs.Preceding.{trace_precedes}
+use Rattle.wh_trace.proofs.Preceding.{image_laws, trace_precedes}
 use Rattle.wh_trace.proofs.Viewing.{Earlier, Follows, IsNumbered, mapped, trace_follows, trace_ordered}
 use Rattle.wh_trace.specs.Laws.{InstallLaws, Stands}
 use Rattle.wh_trace.specs.Reached.{HasBegun, Precedes, begun_over, catalog_of}
@@ -65,5 +65,11 @@ content_lasts trace more n v w before after point =
     ap (λ o. option_case o [] (λ p. stored w.def.query (base_at d p))) point
     ∙ stored_at c d v.def.query w.def.query v.point (ap (λ (d : ViewDef). d.query) (h.same n v w before after)) h.base low
 
+install_each : (trace : List Event) (n k p : ℕ) (b : Begun) (v w : View) → (session_of (state_of trace) n).begun ≡ Some b → view_numbered b.image k ≡ Some v
+    → view_numbered (catalog_of trace) k ≡ Some w → p ≤ b.image.scn → stored w.def.query (base_at (catalog_of trace) p) ≡ stored v.def.query (base_at b.image p)
+install_each trace n k p b v w begun was now low =
+    let h : Precedes b.image (catalog_of trace) = image_laws.begun_before trace n b begun in
+    ap (λ (d : ViewDef). stored d.query (base_at (catalog_of trace) p)) (h.same k v w was now) ∙ ap (λ base. stored v.def.query base) (h.base p low)
+
 pub install_laws : InstallLaws
-install_laws = record { lasts = content_lasts; stands = install_stands }
+install_laws = record { lasts = content_lasts; stands = install_stands; each = install_each }

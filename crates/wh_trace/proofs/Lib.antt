@@ -1,6 +1,7 @@
 pub mod Listed
 pub mod Seated
 pub mod Moves
+pub mod Makings
 pub mod Outcomes
 pub mod Stepping
 pub mod Traces
@@ -11,11 +12,14 @@ pub mod Imaging
 pub mod Tabling
 pub mod Preceding
 pub mod Pointing
+pub mod Nesting
 pub mod Installing
 pub mod Basing
 pub mod Keying
 pub mod Asking
 pub mod Rising
+pub mod Regrouping
+pub mod Bordering
 pub mod Untouched
 pub mod Finishing
 pub mod Fitting
@@ -26,3 +30,10 @@ pub mod Counting
 pub mod Bounding
 pub mod Leaving
 pub mod Versions
+pub mod Changes
+pub mod Tested
+pub mod Marks
+pub mod Blocks
+pub mod Cuts
+pub mod Outside
+pub mod Sparing

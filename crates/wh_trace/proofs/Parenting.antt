@@ -1,28 +1,26 @@
 -- Each enabled foreign key holds.
-use Rattle.std.proofs.Common.{◌≡◌, ◌∙◌, sym, ap, refl, subst, ℕ, zero, suc, Bool, true, false, cond, not, List, [], ◌∷◌, ◌++◌, map, Option, None, Some, ◌==◌, ◌&&◌, ◌||◌}
+use Rattle.std.proofs.Common.{◌≡◌, ◌∙◌, sym, ap, refl, subst, ℕ, zero, suc, Bool, true, false, cond, not, List, [], ◌∷◌, ◌++◌, map, None, Some, ◌==◌, ◌&&◌, ◌||◌}
 use Rattle.std.specs.List.{filter, find, list_any}
-use Rattle.wh_base.specs.Lists.{first_of, first_some, or_refuse, unless, where_true}
+use Rattle.wh_base.specs.Lists.{first_of}
 use Rattle.wh_base.specs.Tables.{Base, Row, Table, defs_of, table_after, table_at, value_at, with_table}
 use Rattle.wh_base.specs.Values.{same_value}
-use Rattle.wh_base.specs.declared.replies.Refusal.{Refusal}
-use Rattle.wh_base.specs.declared.replies.Refusal.TheVariants.{ChildExists, LastPartition, NoSuchObject, PartitionBound}
+use Rattle.wh_base.specs.declared.replies.Refusal.TheVariants.{ChildExists}
 use Rattle.wh_base.specs.declared.statements.Event.{Event}
-use Rattle.wh_base.specs.declared.statements.PartChange.{PartChange}
-use Rattle.wh_base.specs.declared.statements.PartChange.TheVariants.{Add, DropPart, Truncate}
 use Rattle.wh_base.specs.declared.statements.Statement.{Statement}
 use Rattle.wh_base.specs.declared.tables.ForeignDef.{ForeignDef}
+use Rattle.wh_base.specs.declared.tables.Part.{Part}
+use Rattle.wh_base.specs.declared.values.Interval.{Interval}
 use Rattle.wh_base.specs.declared.tables.TableDef.{TableDef}
 use Rattle.wh_base.specs.declared.values.Value.{Value}
 use Rattle.def_effect.specs.Block.{Asks, Progress, child_refusal, column_values, enabled, is_orphaned, parent_refusal}
 use Rattle.def_effect.specs.Define.{defined}
-use Rattle.def_effect.specs.Partitions.{Altering, add_refusal, added, alter_part, dropped, is_only_part, part_named, referred_refusal, referring, truncated}
+use Rattle.def_effect.specs.Partitions.{Altering, is_row_of, referred_refusal, referring, regrouped}
 use Rattle.def_history.specs.Catalog.{base_now}
 use Rattle.def_meaning.specs.Meaning.{not_null}
-use Rattle.wh_trace.proofs.Basing.{KeepsBase, Passes, asked_changes, base_holds, each_with, made, none_each, none_first, none_map, none_where}
+use Rattle.wh_trace.proofs.Basing.{ByAdd, ByDrop, ByMovement, ByRegroup, ByTruncate, CutBy, KeepsBase, Passes, asked_changes, base_holds, cut_by, each_with, made, made_of, none_each, none_map, none_where}
 use Rattle.wh_trace.proofs.Finishing.{Finished, finished}
-use Rattle.wh_trace.proofs.Keying.{thin_each}
+use Rattle.wh_trace.proofs.Keying.{regrouped_values, thin_each}
 use Rattle.wh_trace.proofs.Listed.{Each, each_append, each_every, each_two, each_unmap, each_weaker, or_first, or_second}
-use Rattle.wh_trace.proofs.Outcomes.{EachOk, bind_ok, ok_holds, unless_ok}
 use Rattle.wh_trace.proofs.Untouched.{differ_of, more_rows, with_other}
 use Rattle.wh_trace.specs.Reached.{catalog_of}
 use Rattle.wh_trace.specs.Rows.{HasParents}
@@ -108,8 +106,8 @@ asked_parented : (kept : ℕ) (p : Progress) (s : Statement) (a : Asks) → Pass
 asked_parented kept p s a passes h =
     let base : Base = made p.base a in
     let n : ℕ = a.table in
-    let t : Table = table_after (table_at p.base n) a.changes in
-    let end : Finished base n kept (p.changes ++ asked_changes a) = finished base n kept (p.changes ++ asked_changes a) passes.whole in
+    let t : Table = table_after (table_at p.base n) (made_of p.base a) in
+    let end : Finished base n kept (p.changes ++ asked_changes p.base a) = finished base n kept (p.changes ++ asked_changes p.base a) passes.whole in
     let old : Each (OthersThere base n) p.base = each_weaker (ParentsThere p.base) (OthersThere base n) (others_there p.base n t) p.base h in
     let now : Each (OthersThere base n) base = each_with (OthersThere base n) p.base n t old (λ same was. parents_pass base n t (subst (ParentsPass base) same end.parents)) in
     let lost : Each (NoneLost base n) base = each_weaker (λ t. child_refusal base n t ≡ None) (NoneLost base n) (none_lost base n) base (none_each (child_refusal base n) base end.children) in
@@ -126,25 +124,18 @@ created_parented base t none fits h =
 
 -- ---- ALTER TABLE
 
--- the rows stay; or no enabled foreign key refers to the table, and rows may go
+-- the rows stay; or no enabled foreign key refers to the table, and rows may go; or rows get new rowids
 data Cut (base : Base) (n : ℕ) (t : Table) (u : Table) : Type 0 where
-  Stays : u.rows ≡ t.rows → u.def ≡ t.def → Cut base n t u
-  Thins : referred_refusal base n ≡ None → (p : Row → Bool) → u.rows ≡ filter p t.rows → u.def ≡ t.def → Cut base n t u
+  Stays : u.rows ≡ t.rows → enabled u.def ≡ enabled t.def → Cut base n t u
+  Thins : referred_refusal base n ≡ None → (p : Row → Bool) → u.rows ≡ filter p t.rows → enabled u.def ≡ enabled t.def → Cut base n t u
+  Mixes : (before after : List (Part × Interval)) → u ≡ (regrouped t before after).table → Cut base n t u
 
-abbrev CutTo : Base → ℕ → Table → Altering → Type 0
-CutTo base n t a = Cut base n t a.table
-
-cuts : (base : Base) (n : ℕ) (t : Table) (change : PartChange) → EachOk (CutTo base n t) (alter_part base n t change)
-cuts base n t (Add r) =
-    bind_ok (CutTo base n t) (or_refuse t.def.part_key (PartitionBound t.def.name r.name)) (λ key. unless (add_refusal t r key) (added t r))
-    (λ key e. unless_ok (CutTo base n t) (add_refusal t r key) (added t r) (λ none. Stays refl refl))
-cuts base n t (DropPart name) =
-    let last : Option Refusal = where_true (is_only_part t) (LastPartition t.def.name) in
-    bind_ok (CutTo base n t) (or_refuse (part_named t name) (NoSuchObject name)) (λ p. unless (first_some (referred_refusal base n ∷ last ∷ [])) (dropped t p))
-    (λ p e. unless_ok (CutTo base n t) (first_some (referred_refusal base n ∷ last ∷ [])) (dropped t p) (λ none. Thins (none_first (referred_refusal base n) (last ∷ []) none) _ refl refl))
-cuts base n t (Truncate name) =
-    bind_ok (CutTo base n t) (or_refuse (part_named t name) (NoSuchObject name)) (λ p. unless (referred_refusal base n) (truncated t p))
-    (λ p e. unless_ok (CutTo base n t) (referred_refusal base n) (truncated t p) (λ none. Thins none _ refl refl))
+cuts : (kept : ℕ) (base : Base) (n : ℕ) (t : Table) (a : Altering) → CutBy kept base n t a → Cut base n t a.table
+cuts kept base n t a (ByAdd r key none is) = subst (λ (a : Altering). Cut base n t a.table) (sym is) (Stays refl refl)
+cuts kept base n t a (ByDrop name p named none is) = subst (λ (a : Altering). Cut base n t a.table) (sym is) (Thins none _ refl refl)
+cuts kept base n t a (ByTruncate name p named none is) = subst (λ (a : Altering). Cut base n t a.table) (sym is) (Thins none _ refl refl)
+cuts kept base n t a (ByRegroup before after groups is) = Mixes before after (ap (λ (a : Altering). a.table) is)
+cuts kept base n t a (ByMovement on is) = subst (λ (a : Altering). Cut base n t a.table) (sym is) (Stays refl refl)
 
 -- each table has the rows that it had
 with_rows : (base : Base) (n m : ℕ) (t : Table) → t.rows ≡ (table_at base n).rows → (table_at base m).rows ≡ (table_at (with_table base n t) m).rows
@@ -155,9 +146,9 @@ with_rows (u ∷ us) (suc n) zero t same = refl
 with_rows (u ∷ us) (suc n) (suc m) t same = with_rows us n m t same
 
 -- what the rows and the definition of a table tell
-there_told : (base : Base) (t u : Table) → u.rows ≡ t.rows → u.def ≡ t.def → ParentsThere base t → ParentsThere base u
+there_told : (base : Base) (t u : Table) → u.rows ≡ t.rows → enabled u.def ≡ enabled t.def → ParentsThere base t → ParentsThere base u
 there_told base t u rows def h =
-    subst (λ d. Each (HasParents base u) (enabled d)) (sym def)
+    subst (Each (HasParents base u)) (sym def)
     (each_weaker (HasParents base t) (HasParents base u)
     (λ f has. ap (λ vs. list_any (has_none (column_values (table_at base f.table) f.to)) vs) (rows_tell u t f.column rows) ∙ has) (enabled t.def) h)
 
@@ -184,6 +175,74 @@ unreferred_there base n t u h k =
     each_weaker (λ f. (IsOf n f ≡ false → HasParents base u f) × (IsOf n f ≡ false)) (HasParents base u) (λ f both. both.0 both.1) (enabled u.def)
     (each_two (λ f. IsOf n f ≡ false → HasParents base u f) (λ f. IsOf n f ≡ false) (enabled u.def) h k)
 
+-- ---- rows with new rowids have the values that they had
+
+or_swap : (a b c : Bool) → (a || (b || c)) ≡ (b || (a || c))
+or_swap true true c = refl
+or_swap true false c = refl
+or_swap false true c = refl
+or_swap false false c = refl
+
+or_assoc : (a b c : Bool) → ((a || b) || c) ≡ (a || (b || c))
+or_assoc true b c = refl
+or_assoc false b c = refl
+
+any_joined : {A : Type 0} (g : A → Bool) (xs ys : List A) → list_any g (xs ++ ys) ≡ (list_any g xs || list_any g ys)
+any_joined g [] ys = refl
+any_joined g (x ∷ xs) ys = ap (λ b. g x || b) (any_joined g xs ys) ∙ sym (or_assoc (g x) (list_any g xs) (list_any g ys))
+
+any_split : {A B : Type 0} (g q : B → Bool) (f : A → B) (e : A → Bool) (xs : List A)
+    → (list_any g (filter q (map f (filter (λ x. not (e x)) xs))) || list_any g (filter q (map f (filter e xs)))) ≡ list_any g (filter q (map f xs))
+any_split g q f e [] = refl
+any_split {A} {B} g q f e (x ∷ xs) = by (e x) (q (f x)) refl (any_split g q f e xs)
+  where
+    stay : List B
+    stay = filter q (map f (filter (λ x. not (e x)) xs))
+
+    taken : List B
+    taken = filter q (map f (filter e xs))
+
+    by : (b c : Bool) → q (f x) ≡ c → (list_any g stay || list_any g taken) ≡ list_any g (filter q (map f xs))
+        → (list_any g (filter q (map f (cond (not b) (x ∷ filter (λ x. not (e x)) xs) (filter (λ x. not (e x)) xs)))) || list_any g (filter q (map f (cond b (x ∷ filter e xs) (filter e xs)))))
+        ≡ list_any g (cond c (f x ∷ filter q (map f xs)) (filter q (map f xs)))
+    by true true is rest = ap (λ c. list_any g stay || list_any g (cond c (f x ∷ taken) taken)) is ∙ or_swap (list_any g stay) (g (f x)) (list_any g taken) ∙ ap (λ b. g (f x) || b) rest
+    by true false is rest = ap (λ c. list_any g stay || list_any g (cond c (f x ∷ taken) taken)) is ∙ rest
+    by false true is rest = ap (λ c. list_any g (cond c (f x ∷ stay) stay) || list_any g taken) is ∙ or_assoc (g (f x)) (list_any g stay) (list_any g taken) ∙ ap (λ b. g (f x) || b) rest
+    by false false is rest = ap (λ c. list_any g (cond c (f x ∷ stay) stay) || list_any g taken) is ∙ rest
+
+mixed_any : (t : Table) (before after : List (Part × Interval)) (c : ℕ) (g : Value → Bool) → list_any g (column_values (regrouped t before after).table c) ≡ list_any g (column_values t c)
+mixed_any t before after c g =
+    let moves : Row → Bool = is_row_of (map (λ p. p.0.number) before) t in
+    let value : Row → Value = λ r. value_at r.values c in
+    ap (list_any g) (regrouped_values t before after c)
+    ∙ any_joined g (filter not_null (map value (filter (λ r. not (moves r)) t.rows))) (filter not_null (map value (filter moves t.rows)))
+    ∙ any_split g not_null value moves t.rows
+
+-- the parents that any value has are as before
+with_any : (base : Base) (n m c : ℕ) (t : Table) (g : Value → Bool) → list_any g (column_values t c) ≡ list_any g (column_values (table_at base n) c)
+    → list_any g (column_values (table_at (with_table base n t) m) c) ≡ list_any g (column_values (table_at base m) c)
+with_any [] n m c t g same = refl
+with_any (u ∷ us) zero zero c t g same = same
+with_any (u ∷ us) zero (suc m) c t g same = refl
+with_any (u ∷ us) (suc n) zero c t g same = refl
+with_any (u ∷ us) (suc n) (suc m) c t g same = with_any us n m c t g same
+
+mixed_parents : (base : Base) (n : ℕ) (before after : List (Part × Interval)) (t : Table) (f : ForeignDef) → HasParents base t f → HasParents (with_table base n (regrouped (table_at base n) before after).table) t f
+mixed_parents base n before after t f h =
+    let later : Base = with_table base n (regrouped (table_at base n) before after).table in
+    let same : (v : Value) → has_none (column_values (table_at later f.table) f.to) v ≡ has_none (column_values (table_at base f.table) f.to) v =
+    λ v. ap not (with_any base n f.table f.to (regrouped (table_at base n) before after).table (same_value v) (mixed_any (table_at base n) before after f.to (same_value v))) in
+    (λ i. list_any (λ v. same v i) (column_values t f.column)) ∙ h
+
+mixed_parented : (base : Base) (n : ℕ) (before after : List (Part × Interval)) → Parented base → Parented (with_table base n (regrouped (table_at base n) before after).table)
+mixed_parented base n before after h =
+    let u : Table = (regrouped (table_at base n) before after).table in
+    let later : Base = with_table base n u in
+    let all : Each (ParentsThere later) base = each_weaker (ParentsThere base) (ParentsThere later) (λ t each. each_weaker (HasParents base t) (HasParents later t) (mixed_parents base n before after t) (enabled t.def) each) base h in
+    each_with (ParentsThere later) base n u all
+    (λ same was. each_weaker (HasParents later (table_at base n)) (HasParents later u)
+    (λ f has. mixed_any (table_at base n) before after f.column (has_none (column_values (table_at later f.table) f.to)) ∙ has) (enabled (table_at base n).def) was)
+
 cut_parented : (base : Base) (n : ℕ) (u : Table) → Cut base n (table_at base n) u → Parented base → Parented (with_table base n u)
 cut_parented base n u (Stays rows def) h =
     let later : Base = with_table base n u in
@@ -191,6 +250,7 @@ cut_parented base n u (Stays rows def) h =
     each_weaker (ParentsThere base) (ParentsThere later)
     (λ t each. each_weaker (HasParents base t) (HasParents later t) (λ f has. parents_same base later t f (with_rows base n f.table u rows) has) (enabled t.def) each) base h in
     each_with (ParentsThere later) base n u all (λ same was. there_told later (table_at base n) u rows def was)
+cut_parented base n u (Mixes before after is) h = subst (λ u. Parented (with_table base n u)) (sym is) (mixed_parented base n before after h)
 cut_parented base n u (Thins none p rows def) h =
     let later : Base = with_table base n u in
     let t : Table = table_at base n in
@@ -209,8 +269,8 @@ keep_parents =
       created = λ taken base t fits h.
           created_parented base (defined (defs_of base) t) refl
           (each_every (HasParents (base ++ defined (defs_of base) t ∷ []) (defined (defs_of base) t)) (λ f. refl) (enabled (defined (defs_of base) t).def)) h;
-      cut = λ base n change a same h.
-          cut_parented base n a.table (ok_holds (CutTo base n (table_at base n)) (alter_part base n (table_at base n) change) a (cuts base n (table_at base n) change) same) h;
+      cut = λ kept base n change a same h.
+          cut_parented base n a.table (cuts kept base n (table_at base n) a (cut_by kept base n (table_at base n) change a same)) h;
     }
 
 pub trace_parents : (trace : List Event) → Parented (base_now (catalog_of trace))

@@ -6,7 +6,8 @@ use Rattle.def_effect.specs.Block.{enabled, max_rows}
 use Rattle.def_history.specs.Catalog.{base_now}
 use Rattle.wh_trace.proofs.Keying.{KeysHold, trace_keys}
 use Rattle.wh_trace.proofs.Listed.{Each, all_from, each_weaker, pairs_from}
-use Rattle.wh_trace.proofs.Rising.{Rises, trace_rises}
+use Rattle.wh_trace.proofs.Rising.{Rises}
+use Rattle.wh_trace.proofs.Fitting.{trace_rises}
 use Rattle.wh_trace.proofs.Defining.{trace_defined}
 use Rattle.wh_trace.proofs.Fitting.{AllFit, IsFew, trace_few, trace_fits}
 use Rattle.wh_trace.proofs.Parenting.{ParentsThere, trace_parents}

@@ -1,5 +1,5 @@
 -- Tables only come, and the names of all objects differ.
-use Rattle.std.proofs.Common.{◌≡◌, ◌≢◌, ◌∙◌, sym, ap, refl, subst, arith, ℕ, zero, suc, ◌+◌, ◌≤◌, Bool, true, false, cond, not, List, [], ◌∷◌, ◌++◌, map, Option, None, Some, nat_le, ◌==◌, true≢false}
+use Rattle.std.proofs.Common.{◌≡◌, ◌≢◌, ◌∙◌, sym, ap, refl, subst, arith, ℕ, zero, suc, ◌+◌, ◌≤◌, Bool, true, false, cond, not, List, [], ◌∷◌, ◌++◌, length, map, Option, None, Some, nat_le, ◌==◌, true≢false}
 use Rattle.std.specs.List.{filter, find}
 use Rattle.std.specs.Prelude.{Err, Ok, Result}
 use Rattle.std.proofs.lemmas.List.{append-nil, append_assoc, map-append}
@@ -11,7 +11,8 @@ use Rattle.wh_base.specs.declared.statements.Event.{Event}
 use Rattle.wh_base.specs.declared.statements.Statement.{Statement}
 use Rattle.wh_base.specs.declared.tables.TableDef.{TableDef}
 use Rattle.def_dimensions.specs.Dimensions.{Dimension, new_dimension}
-use Rattle.def_effect.specs.Block.{Asks, Progress, changed_row_refusal, effect, final_refusal, make_changes, run_asked, run_statement, run_statements, statement_asks, stop_at}
+use Rattle.wh_base.specs.declared.tables.Change.{Change}
+use Rattle.def_effect.specs.Block.{made_changes, Asks, Progress, changed_row_refusal, effect, final_refusal, make_changes, run_asked, run_statement, run_statements, statement_asks, stop_at}
 use Rattle.def_effect.specs.Define.{defined}
 use Rattle.def_effect.specs.Partitions.{Altering}
 use Rattle.def_history.specs.Catalog.{Catalog, Log, View, base_now, defs_now, names_taken}
@@ -20,17 +21,17 @@ use Rattle.def_journal.specs.Committing.{after_block, do_dues}
 use Rattle.def_journal.specs.Journal.{state_after, state_of}
 use Rattle.def_journal.specs.Refreshing.{change_view, refreshed_to}
 use Rattle.def_journal.specs.State.{State, next_scn, with_base}
-use Rattle.def_journal.specs.Statements.{altered, new_view, with_view}
-use Rattle.wh_trace.proofs.Due.{KeepsDue, dues_keep, suspended}
-use Rattle.wh_trace.proofs.Growing.{SamePast, dues_past, past_bounded, reached}
-use Rattle.wh_trace.proofs.Listed.{Each, Pairs, each_append, each_left, each_right, each_weaker, find_alike, le_true, or_first, or_second, pairs_across, pairs_append, pairs_from, pairs_left, pairs_right}
-use Rattle.wh_trace.proofs.Moves.{Adds, Alters, Commits, Creates, Declares, Drops, Forgets, Installs, Logs, Move, Purges, Stays, Switches, Withdraws}
+use Rattle.def_journal.specs.Statements.{altered, with_view}
+use Rattle.wh_trace.proofs.Due.{KeepsDue, dues_keep, installs_keep, suspended}
+use Rattle.wh_trace.proofs.Growing.{SamePast, dues_past, installed_past, past_bounded, reached}
+use Rattle.wh_trace.proofs.Listed.{Each, Pairs, each_append, each_every, each_left, each_right, each_weaker, find_alike, le_true, or_first, or_second, pairs_across, pairs_append, pairs_from, pairs_left, pairs_right}
+use Rattle.wh_trace.proofs.Moves.{Adds, Alters, Commits, Creates, Declares, Drops, Forgets, Installs, Logs, Move, IsSameTable, Purges, Stays, Switches, Withdraws, installed}
 use Rattle.wh_trace.proofs.Outcomes.{EachOk, bind_ok, ok_holds}
 use Rattle.wh_trace.proofs.Stepping.{moves}
 use Rattle.wh_trace.proofs.Traces.{by_events, state_push}
-use Rattle.wh_trace.proofs.Viewing.{changed_name}
+use Rattle.wh_trace.proofs.Viewing.{changed_name, made_name}
 use Rattle.wh_trace.specs.Laws.{TableLaws}
-use Rattle.wh_trace.specs.Reached.{IsSameView, catalog_of}
+use Rattle.wh_trace.specs.Reached.{IsSameView, catalog_of, still, stills}
 
 -- ---- the base state of now
 
@@ -55,6 +56,12 @@ with_table_defs [] n t same = refl
 with_table_defs (u ∷ us) zero t same = ap (λ d. d ∷ defs_of us) same
 with_table_defs (u ∷ us) (suc n) t same = ap (λ ds. u.def ∷ ds) (with_table_defs us n t same)
 
+-- ALTER TABLE leaves them but for the row movement
+pub with_table_still : (base : Base) (n : ℕ) (t : Table) → IsSameTable (table_at base n).def t.def → map still (defs_of (with_table base n t)) ≡ map still (defs_of base)
+with_table_still [] n t same = refl
+with_table_still (u ∷ us) zero t same = ap (λ d. still d ∷ map still (defs_of us)) same
+with_table_still (u ∷ us) (suc n) t same = ap (λ ds. still u.def ∷ ds) (with_table_still us n t same)
+
 abbrev HasDefs : List TableDef → Progress → Type 0
 HasDefs defs p = defs_of p.base ≡ defs
 
@@ -64,12 +71,13 @@ stop_keeps Q at scanned (Some code) done h = tt
 
 make_keeps : (defs : List TableDef) (kept at : ℕ) (p : Progress) (a : Asks) → HasDefs defs p → EachOk (HasDefs defs) (make_changes kept at p a)
 make_keeps defs kept at p a h =
-    let base : Base = with_table p.base a.table (table_after (table_at p.base a.table) a.changes) in
-    let changes : List TableChange = p.changes ++ map (λ c. record { table = a.table; change = c }) a.changes in
+    let news : List Change = made_changes (table_at p.base a.table) (table_at p.base a.table).given a.changes in
+    let base : Base = with_table p.base a.table (table_after (table_at p.base a.table) news) in
+    let changes : List TableChange = p.changes ++ map (λ c. record { table = a.table; change = c }) news in
     stop_keeps (HasDefs defs) at (p.scanned + a.scanned)
     (first_some (first_of (changed_row_refusal (table_at p.base a.table)) a.changes ∷ final_refusal base a.table kept changes ∷ []))
-    (record { base = base; changes = changes; scanned = p.scanned + a.scanned })
-    (with_table_defs p.base a.table (table_after (table_at p.base a.table) a.changes) refl ∙ h)
+    (record { base = base; changes = changes; scanned = p.scanned + a.scanned; rows = p.rows + length a.changes })
+    (with_table_defs p.base a.table (table_after (table_at p.base a.table) (made_changes (table_at p.base a.table) (table_at p.base a.table).given a.changes)) refl ∙ h)
 
 asked_keeps : (defs : List TableDef) (kept at : ℕ) (p : Progress) (r : Result Asks Refusal) → HasDefs defs p → EachOk (HasDefs defs) (run_asked kept at p r)
 asked_keeps defs kept at p (Ok a) h = make_keeps defs kept at p a h
@@ -83,7 +91,7 @@ statements_keep defs kept at p (s ∷ ss) h =
 
 effect_keeps : (base : Base) (kept : ℕ) (ss : List Statement) (p : Progress) → effect base kept ss ≡ Ok p → defs_of p.base ≡ defs_of base
 effect_keeps base kept ss p same =
-    ok_holds (HasDefs (defs_of base)) (effect base kept ss) p (statements_keep (defs_of base) kept 1 (record { base = base; changes = []; scanned = 0 }) ss refl) same
+    ok_holds (HasDefs (defs_of base)) (effect base kept ss) p (statements_keep (defs_of base) kept 1 (record { base = base; changes = []; scanned = 0; rows = 0 }) ss refl) same
 
 -- ---- what each event does to the definitions
 
@@ -100,9 +108,9 @@ commit_defs c p ss same =
     let past : SamePast (after_block c p) d = dues_past c p in
     ap defs_of (base_latest d p.base c.past (past.past ∙ ap (λ n. (n, p.base) ∷ c.past) (sym past.scn))) ∙ effect_keeps (base_now c) (kept_versions c) ss p same
 
-alter_defs : (c : Catalog) (n : ℕ) (a : Altering) → a.table.def ≡ (table_at (base_now c) n).def → defs_now (altered c n a) ≡ defs_now c
+alter_defs : (c : Catalog) (n : ℕ) (a : Altering) → IsSameTable (table_at (base_now c) n).def a.table.def → stills (altered c n a) ≡ stills c
 alter_defs c n a same =
-    ap defs_of (base_latest (altered c n a) (with_table (base_now c) n a.table) c.past refl) ∙ with_table_defs (base_now c) n a.table same
+    ap (λ (b : Base). map still (defs_of b)) (base_latest (altered c n a) (with_table (base_now c) n a.table) c.past refl) ∙ with_table_still (base_now c) n a.table same
 
 create_defs : (c : Catalog) (t : Table) → defs_now (with_base c (base_now c ++ t ∷ [])) ≡ defs_now c ++ t.def ∷ []
 create_defs c t = ap defs_of (base_latest (with_base c (base_now c ++ t ∷ [])) (base_now c ++ t ∷ []) c.past refl) ∙ map-append (λ (t : Table). t.def) (base_now c) (t ∷ [])
@@ -110,31 +118,40 @@ create_defs c t = ap defs_of (base_latest (with_base c (base_now c ++ t ∷ []))
 logs_defs : (c : Catalog) (logs : List Log) → IsBounded c → defs_now (record (next_scn c) { logs = logs }) ≡ defs_now c
 logs_defs c logs bounded = ap defs_of (base_later c (record (next_scn c) { logs = logs }) refl (omega arith) bounded)
 
+-- installs leave them
+pub installed_base : (c : Catalog) (ps : List (ℕ × ℕ)) → base_now (installed ps c) ≡ base_now c
+installed_base c ps =
+    let same : SamePast c (installed ps c) = installed_past c ps in
+    λ i. option_case (find (λ p. nat_le p.0 (same.scn i)) (same.past i)) [] (λ p. p.1)
+
+pub installed_defs : (c : Catalog) (ps : List (ℕ × ℕ)) → defs_now (installed ps c) ≡ defs_now c
+installed_defs c ps = ap defs_of (installed_base c ps)
+
 -- ---- tables only come
 
 record Longer (c d : Catalog) : Type 0 where
   later : List TableDef
-  is : defs_now d ≡ defs_now c ++ later
+  is : stills d ≡ stills c ++ later
 
-longer_same : (c d : Catalog) → defs_now d ≡ defs_now c → Longer c d
-longer_same c d same = record { later = []; is = same ∙ sym (append-nil (defs_now c)) }
+longer_same : (c d : Catalog) → stills d ≡ stills c → Longer c d
+longer_same c d same = record { later = []; is = same ∙ sym (append-nil (stills c)) }
 
 longer_on : (c d e : Catalog) → Longer c d → Longer d e → Longer c e
-longer_on c d e h k = record { later = h.later ++ k.later; is = k.is ∙ ap (λ defs. defs ++ k.later) h.is ∙ append_assoc (defs_now c) h.later k.later }
+longer_on c d e h k = record { later = h.later ++ k.later; is = k.is ∙ ap (λ defs. defs ++ k.later) h.is ∙ append_assoc (stills c) h.later k.later }
 
 move_longer : (s : State) (x : Event) (d : Catalog) → IsBounded s.catalog → Move s x d → Longer s.catalog d
 move_longer s x d bounded (Stays is) = subst (Longer s.catalog) (sym is) (longer_same s.catalog s.catalog refl)
-move_longer s x d bounded (Commits p ss same block is) = subst (Longer s.catalog) (sym is) (longer_same s.catalog _ (commit_defs s.catalog p ss same))
+move_longer s x d bounded (Commits p ss same block is) = subst (Longer s.catalog) (sym is) (longer_same s.catalog _ (ap (map still) (commit_defs s.catalog p ss same)))
 move_longer s x d bounded (Creates t new fits is) =
-    subst (Longer s.catalog) (sym is) (record { later = (defined (defs_now s.catalog) t).def ∷ []; is = create_defs s.catalog (defined (defs_now s.catalog) t) })
-move_longer s x d bounded (Alters n a same change cut is) = subst (Longer s.catalog) (sym is) (longer_same s.catalog _ (alter_defs s.catalog n a same))
-move_longer s x d bounded (Logs logs is) = subst (Longer s.catalog) (sym is) (longer_same s.catalog _ (logs_defs s.catalog logs bounded))
-move_longer s x d bounded (Purges logs is) = subst (Longer s.catalog) (sym is) (longer_same s.catalog _ refl)
+    subst (Longer s.catalog) (sym is) (record { later = still (defined (defs_now s.catalog) t).def ∷ []; is = ap (map still) (create_defs s.catalog (defined (defs_now s.catalog) t)) ∙ map-append still (defs_now s.catalog) ((defined (defs_now s.catalog) t).def ∷ []) })
+move_longer s x d bounded (Alters n a same change form cut is) = subst (Longer s.catalog) (sym is) (longer_same s.catalog _ (alter_defs s.catalog n a same))
+move_longer s x d bounded (Logs logs made is) = subst (Longer s.catalog) (sym is) (longer_same s.catalog _ (ap (map still) (logs_defs s.catalog logs bounded)))
+move_longer s x d bounded (Purges logs purge is) = subst (Longer s.catalog) (sym is) (longer_same s.catalog _ refl)
 move_longer s x d bounded (Forgets oldest more undo is) = subst (Longer s.catalog) (sym is) (longer_same s.catalog _ refl)
-move_longer s x d bounded (Adds v q new is) = subst (Longer s.catalog) (sym is) (longer_same s.catalog _ refl)
+move_longer s x d bounded (Adds v w new star is) = subst (Longer s.catalog) (sym is) (longer_same s.catalog _ refl)
 move_longer s x d bounded (Switches n f keeps is) = subst (Longer s.catalog) (sym is) (longer_same s.catalog _ refl)
-move_longer s x d bounded (Installs n b begun is) = subst (Longer s.catalog) (sym is) (longer_same s.catalog _ refl)
-move_longer s x d bounded (Drops n is) = subst (Longer s.catalog) (sym is) (longer_same s.catalog _ refl)
+move_longer s x d bounded (Installs b ps begun takes is) = subst (Longer s.catalog) (sym is) (longer_same s.catalog _ (ap (map still) (installed_defs s.catalog ps)))
+move_longer s x d bounded (Drops n free is) = subst (Longer s.catalog) (sym is) (longer_same s.catalog _ refl)
 move_longer s x d bounded (Declares a new is) = subst (Longer s.catalog) (sym is) (longer_same s.catalog _ refl)
 move_longer s x d bounded (Withdraws name is) = subst (Longer s.catalog) (sym is) (longer_same s.catalog _ refl)
 
@@ -232,10 +249,15 @@ record SameNames (c d : Catalog) : Type 0 where
   views : view_names d ≡ view_names c
   dimensions : d.dimensions ≡ c.dimensions
 
-named_same : (c d : Catalog) → defs_now d ≡ defs_now c → SameNames c d → AreNamed c → AreNamed d
+-- the names don't tell the row movement
+still_names : (ds : List TableDef) → map (λ (d : TableDef). d.name) ds ≡ map (λ (d : TableDef). d.name) (map still ds)
+still_names [] = refl
+still_names (d ∷ ds) = ap (λ ns. d.name ∷ ns) (still_names ds)
+
+named_same : (c d : Catalog) → stills d ≡ stills c → SameNames c d → AreNamed c → AreNamed d
 named_same c d defs same h =
     let names : names_taken d ≡ names_taken c =
-    ap (λ ds. map (λ (d : TableDef). d.name) ds ++ (view_names d ++ dimension_names d)) defs
+    ap (λ ns. ns ++ (view_names d ++ dimension_names d)) (still_names (defs_now d) ∙ ap (map (λ (d : TableDef). d.name)) defs ∙ sym (still_names (defs_now c)))
     ∙ ap (λ vs. table_names c ++ (vs ++ dimension_names d)) same.views
     ∙ ap (λ ds. table_names c ++ (view_names c ++ map (λ (d : Dimension). d.name) ds)) same.dimensions in
     subst (Pairs Differ) (sym names) h
@@ -259,6 +281,11 @@ due_names c =
       suspends = λ d n h. names_on c d (change_view n suspended d) h (changed_names d n suspended (λ v. refl));
       refreshes = λ d n h. names_on c d (change_view n (refreshed_to d.scn) d) h (changed_names d n (refreshed_to d.scn) (λ v. refl));
     }
+
+installed_names : (c : Catalog) (ps : List (ℕ × ℕ)) → SameNames c (installed ps c)
+installed_names c ps =
+    installs_keep (SameNames c) (λ p. Unit {0}) (λ d p q h. names_on c d (change_view p.0 (refreshed_to p.1) d) h (changed_names d p.0 (refreshed_to p.1) (λ v. refl))) c ps
+    (each_every (λ p. Unit {0}) (λ p. tt) ps) (record { views = refl; dimensions = refl })
 
 commit_names : (c : Catalog) (p : Progress) → SameNames c (do_dues (after_block c p) p.changes).catalog
 commit_names c p = dues_keep (SameNames c) (due_names c) (after_block c p) p.changes (record { views = refl; dimensions = refl })
@@ -321,16 +348,16 @@ withdraw_named c p h =
 
 move_named : (s : State) (x : Event) (d : Catalog) → IsBounded s.catalog → Move s x d → AreNamed s.catalog → AreNamed d
 move_named s x d bounded (Stays is) h = subst AreNamed (sym is) h
-move_named s x d bounded (Commits p ss same block is) h = subst AreNamed (sym is) (named_same s.catalog (do_dues (after_block s.catalog p) p.changes).catalog (commit_defs s.catalog p ss same) (commit_names s.catalog p) h)
+move_named s x d bounded (Commits p ss same block is) h = subst AreNamed (sym is) (named_same s.catalog (do_dues (after_block s.catalog p) p.changes).catalog (ap (map still) (commit_defs s.catalog p ss same)) (commit_names s.catalog p) h)
 move_named s x d bounded (Creates t new fits is) h = subst AreNamed (sym is) (create_named s.catalog (defined (defs_now s.catalog) t) new h)
-move_named s x d bounded (Alters n a same change cut is) h = subst AreNamed (sym is) (named_same s.catalog (altered s.catalog n a) (alter_defs s.catalog n a same) (all_same s.catalog (altered s.catalog n a) refl refl) h)
-move_named s x d bounded (Logs logs is) h = subst AreNamed (sym is) (named_same s.catalog (record (next_scn s.catalog) { logs = logs }) (logs_defs s.catalog logs bounded) (all_same s.catalog (record (next_scn s.catalog) { logs = logs }) refl refl) h)
-move_named s x d bounded (Purges logs is) h = subst AreNamed (sym is) h
+move_named s x d bounded (Alters n a same change form cut is) h = subst AreNamed (sym is) (named_same s.catalog (altered s.catalog n a) (alter_defs s.catalog n a same) (all_same s.catalog (altered s.catalog n a) refl refl) h)
+move_named s x d bounded (Logs logs made is) h = subst AreNamed (sym is) (named_same s.catalog (record (next_scn s.catalog) { logs = logs }) (ap (map still) (logs_defs s.catalog logs bounded)) (all_same s.catalog (record (next_scn s.catalog) { logs = logs }) refl refl) h)
+move_named s x d bounded (Purges logs purge is) h = subst AreNamed (sym is) h
 move_named s x d bounded (Forgets oldest more undo is) h = subst AreNamed (sym is) h
-move_named s x d bounded (Adds v q new is) h = subst AreNamed (sym is) (add_named s.catalog (new_view s.catalog v q) new h)
+move_named s x d bounded (Adds v w new star is) h = subst AreNamed (sym is) (add_named s.catalog w (ap (has_text (names_taken s.catalog)) (made_name s.catalog v w star) ∙ new) h)
 move_named s x d bounded (Switches n f keeps is) h = subst AreNamed (sym is) (named_same s.catalog (change_view n f s.catalog) refl (changed_names s.catalog n f keeps.def) h)
-move_named s x d bounded (Installs n b begun is) h = subst AreNamed (sym is) (named_same s.catalog (change_view n (refreshed_to b.image.scn) s.catalog) refl (changed_names s.catalog n (refreshed_to b.image.scn) (λ v. refl)) h)
-move_named s x d bounded (Drops n is) h = subst AreNamed (sym is) (drop_named s.catalog (λ w. not (w.def.view == n)) h)
+move_named s x d bounded (Installs b ps begun takes is) h = subst AreNamed (sym is) (named_same s.catalog (installed ps s.catalog) (ap (map still) (installed_defs s.catalog ps)) (installed_names s.catalog ps) h)
+move_named s x d bounded (Drops n free is) h = subst AreNamed (sym is) (drop_named s.catalog (λ w. not (w.def.view == n)) h)
 move_named s x d bounded (Declares a new is) h = subst AreNamed (sym is) (declare_named s.catalog (new_dimension (defs_now s.catalog) a) new h)
 move_named s x d bounded (Withdraws name is) h = subst AreNamed (sym is) (withdraw_named s.catalog (λ e. not (same_text e.name name)) h)
 

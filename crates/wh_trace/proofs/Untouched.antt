@@ -1,5 +1,5 @@
 -- A table that no commit and no ALTER TABLE changed is as it was.
-use Rattle.std.proofs.Common.{◌≡◌, ◌∙◌, sym, ap, refl, subst, arith, ℕ, zero, suc, ◌+◌, ◌<◌, ◌≤◌, Bool, true, false, cond, List, [], ◌∷◌, ◌++◌, length, map, None, Some, nat_le, nat_lt, ◌==◌, ◌&&◌, true≢false}
+use Rattle.std.proofs.Common.{◌⊎◌, inl, inr, ◌≡◌, ◌∙◌, sym, ap, refl, subst, arith, ℕ, zero, suc, ◌+◌, ◌<◌, ◌≤◌, Bool, true, false, cond, List, [], ◌∷◌, ◌++◌, length, map, None, Some, nat_le, nat_lt, ◌==◌, ◌&&◌, true≢false}
 use Rattle.std.specs.List.{filter, find, list_any}
 use Rattle.std.specs.Prelude.{Ok}
 use Rattle.std.proofs.lemmas.Bool.{eq-eqb, leb-false, lt-ltb}
@@ -10,32 +10,35 @@ use Rattle.wh_base.specs.declared.statements.Event.{Event}
 use Rattle.wh_base.specs.declared.statements.Statement.{Statement}
 use Rattle.wh_base.specs.declared.tables.Change.{Change}
 use Rattle.def_effect.specs.Block.{Progress, effect}
+use Rattle.wh_base.specs.declared.statements.PartChange.{PartChange}
+use Rattle.wh_base.specs.declared.tables.Part.{Part}
+use Rattle.wh_base.specs.declared.values.Interval.{Interval}
 use Rattle.def_effect.specs.Define.{defined}
-use Rattle.def_effect.specs.Partitions.{Altering}
+use Rattle.def_effect.specs.Partitions.{Altering, alter_part, with_movement}
 use Rattle.def_history.specs.Catalog.{Catalog, Noted, Touched, base_at, base_now, defs_now, empty_catalog}
 use Rattle.def_history.specs.History.{changes_of, kept_versions, maintained, noted_changes, within}
 use Rattle.def_journal.specs.Committing.{after_block, commit_touches, do_dues, noted, part_touch}
 use Rattle.def_journal.specs.Journal.{state_after, state_of}
 use Rattle.def_journal.specs.State.{State, next_scn, with_base}
 use Rattle.def_journal.specs.Statements.{altered}
-use Rattle.wh_trace.proofs.Basing.{asked_changes, base_altered, base_committed, base_created, block_keeps, made}
-use Rattle.wh_trace.proofs.Growing.{SamePast, changes_bounded, dues_past, reached, touches_bounded}
+use Rattle.wh_trace.proofs.Basing.{asked_changes, base_altered, base_committed, base_created, block_keeps, cut_by, cut_touches, made, made_of}
+use Rattle.wh_trace.proofs.Growing.{SamePast, changes_bounded, dues_past, installed_past, reached, touches_bounded}
 use Rattle.wh_trace.proofs.Listed.{Each, and_false, each_left, each_right, each_two, each_unmap, each_weaker, le_true, or_first, or_second}
-use Rattle.wh_trace.proofs.Moves.{Adds, Alters, Commits, Creates, Declares, Drops, Forgets, Installs, Logs, Move, Purges, Stays, Switches, Withdraws}
+use Rattle.wh_trace.proofs.Moves.{Adds, Alters, Commits, Creates, Declares, Drops, Forgets, Installs, Logs, Move, Purges, Stays, Switches, Withdraws, installed}
 use Rattle.wh_trace.proofs.Stepping.{moves}
-use Rattle.wh_trace.proofs.Tabling.{IsBounded, base_later, bounded_of}
+use Rattle.wh_trace.proofs.Tabling.{IsBounded, base_later, bounded_of, installed_base}
 use Rattle.wh_trace.proofs.Traces.{by_events, state_push}
 use Rattle.wh_trace.specs.Laws.{UntouchedLaws}
-use Rattle.wh_trace.specs.Reached.{catalog_of}
+use Rattle.wh_trace.specs.Reached.{catalog_of, still_table}
 
 -- the table with this number is afterwards as it was before
 pub record AsBefore (table : ℕ) (before later : Base) : Type 0 where
   pub rows : (table_at before table).rows ≡ (table_at later table).rows
-  pub whole : table < length before → table_at before table ≡ table_at later table
+  pub whole : table < length before → still_table (table_at before table) ≡ still_table (table_at later table)
   pub grown : length before ≤ length later
 
 as_equal : (table : ℕ) (before later : Base) → table_at before table ≡ table_at later table → length before ≤ length later → AsBefore table before later
-as_equal table before later same grown = record { rows = ap (λ (t : Table). t.rows) same; whole = λ low. same; grown = grown }
+as_equal table before later same grown = record { rows = ap (λ (t : Table). t.rows) same; whole = λ low. ap still_table same; grown = grown }
 
 as_same : (table : ℕ) (before later : Base) → before ≡ later → AsBefore table before later
 as_same table before later same = subst (AsBefore table before) same (as_equal table before before refl (omega arith))
@@ -60,7 +63,7 @@ with_other (u ∷ us) zero (suc m) t differ = refl
 with_other (u ∷ us) (suc n) zero t differ = refl
 with_other (u ∷ us) (suc n) (suc m) t differ = with_other us n m t (λ e. differ (ap suc e))
 
-with_itself : (base : Base) (n : ℕ) → with_table base n (table_at base n) ≡ base
+pub with_itself : (base : Base) (n : ℕ) → with_table base n (table_at base n) ≡ base
 with_itself [] n = refl
 with_itself (u ∷ us) zero = refl
 with_itself (u ∷ us) (suc n) = ap (λ ts. u ∷ ts) (with_itself us n)
@@ -80,17 +83,17 @@ more_rows [] (suc n) t none = refl
 more_rows (u ∷ us) zero t none = refl
 more_rows (u ∷ us) (suc n) t none = more_rows us n t none
 
-more_whole : (base : Base) (table : ℕ) (t : Table) → table < length base → table_at base table ≡ table_at (base ++ t ∷ []) table
+pub more_whole : (base : Base) (table : ℕ) (t : Table) → table < length base → table_at base table ≡ table_at (base ++ t ∷ []) table
 more_whole [] table t low = absurd (omega arith)
 more_whole (u ∷ us) zero t low = refl
 more_whole (u ∷ us) (suc n) t low = more_whole us n t (omega arith)
 
-more_length : (base : Base) (t : Table) → length base ≤ length (base ++ t ∷ [])
+pub more_length : (base : Base) (t : Table) → length base ≤ length (base ++ t ∷ [])
 more_length [] t = omega arith
 more_length (u ∷ us) t = let h : length us ≤ length (us ++ t ∷ []) = more_length us t in omega arith
 
 as_more : (table : ℕ) (base : Base) (t : Table) → t.rows ≡ [] → AsBefore table base (base ++ t ∷ [])
-as_more table base t none = record { rows = more_rows base table t none; whole = more_whole base table t; grown = more_length base t }
+as_more table base t none = record { rows = more_rows base table t none; whole = λ low. ap still_table (more_whole base table t low); grown = more_length base t }
 
 -- ---- a block
 
@@ -101,7 +104,7 @@ plus_none : (n : ℕ) → n ≡ n + 0
 plus_none n = omega arith
 
 -- no changes leave the table
-unchanged : (t : Table) → t ≡ table_after t []
+pub unchanged : (t : Table) → t ≡ table_after t []
 unchanged t = ap (λ n. record t { given = n }) (plus_none t.given)
 
 asked_elsewhere : (table : ℕ) (base : Base) (n : ℕ) (changes : List Change) → Each (IsElsewhere table) (map (λ c. record { table = n; change = c }) changes)
@@ -117,8 +120,8 @@ block_leaves : (table : ℕ) (base : Base) (kept : ℕ) (ss : List Statement) (p
 block_leaves table base kept ss p same =
     block_keeps kept (Leaves table base)
     (λ q s a passes h elsewhere.
-    as_on table base q.base (made q.base a) (h (each_left (IsElsewhere table) q.changes (asked_changes a) elsewhere))
-    (asked_elsewhere table q.base a.table a.changes (each_right (IsElsewhere table) q.changes (asked_changes a) elsewhere)))
+    as_on table base q.base (made q.base a) (h (each_left (IsElsewhere table) q.changes (asked_changes q.base a) elsewhere))
+    (asked_elsewhere table q.base a.table (made_of q.base a) (each_right (IsElsewhere table) q.changes (asked_changes q.base a) elsewhere)))
     base ss p same (λ none. as_same table base base refl)
 
 -- ---- what was noted after an SCN
@@ -126,7 +129,7 @@ block_leaves table base kept ss p same =
 abbrev IsSpared : ℕ → ℕ → Noted → Type 0
 IsSpared table q n = ((n.table == table) && nat_lt q n.scn) ≡ false
 
-abbrev IsKept : ℕ → ℕ → Touched → Type 0
+abbrev pub IsKept : ℕ → ℕ → Touched → Type 0
 IsKept table q t = (t.by_maintenance && ((t.table == table) && nat_lt q t.touch.scn)) ≡ false
 
 -- a table that nothing noted after q is of is as it was at q
@@ -174,10 +177,45 @@ commit_untouched c p ss same h =
     untouched_based c d p.base (map (noted (suc c.scn)) p.changes) (commit_touches (suc c.scn) p.base p.changes) past.past (base_committed c p) past.changes past.touches
     (λ table q low spared kept. block_leaves table (base_now c) (kept_versions c) ss p same (spared_elsewhere table q c.scn low p.changes spared)) h
 
-alter_untouched : (c : Catalog) (n : ℕ) (a : Altering) → Untouched c → Untouched (altered c n a)
-alter_untouched c n a h =
-    untouched_based c (altered c n a) (with_table (base_now c) n a.table) [] (part_touch (suc c.scn) n true (a.part, a.interval) ∷ []) refl (base_altered c n a) (sym (append-nil c.changes)) refl
-    (λ table q low spared kept. as_other (base_now c) n table a.table (and_first (n == table) (nat_lt q (suc c.scn)) (lt-ltb q (suc c.scn) (omega arith)) kept.0)) h
+-- a table with the same rows, and the same in all but its row movement
+still_rows : (base : Base) (n m : ℕ) (t : Table) → t.rows ≡ (table_at base n).rows → (table_at base m).rows ≡ (table_at (with_table base n t) m).rows
+still_rows [] n m t same = refl
+still_rows (u ∷ us) zero zero t same = sym same
+still_rows (u ∷ us) zero (suc m) t same = refl
+still_rows (u ∷ us) (suc n) zero t same = refl
+still_rows (u ∷ us) (suc n) (suc m) t same = still_rows us n m t same
+
+still_whole : (base : Base) (n m : ℕ) (t : Table) → still_table t ≡ still_table (table_at base n) → still_table (table_at base m) ≡ still_table (table_at (with_table base n t) m)
+still_whole [] n m t same = refl
+still_whole (u ∷ us) zero zero t same = sym same
+still_whole (u ∷ us) zero (suc m) t same = refl
+still_whole (u ∷ us) (suc n) zero t same = refl
+still_whole (u ∷ us) (suc n) (suc m) t same = still_whole us n m t same
+
+head_kept : (table q scn n : ℕ) (ps : List (Part × Interval)) → (ps ≡ [] → ⊥) → Each (IsKept table q) (map (part_touch scn n true) ps) → ((n == table) && nat_lt q scn) ≡ false
+head_kept table q scn n [] some h = absurd (some refl)
+head_kept table q scn n (p ∷ ps) some h = h.0
+
+-- where ALTER TABLE touches nothing of a table after an SCN it leaves it but for its row movement
+pub alter_leaves : (c : Catalog) (n : ℕ) (a : Altering) (change : PartChange) → alter_part (kept_versions c) (base_now c) n (table_at (base_now c) n) change ≡ Ok a
+    → (table q : ℕ) → q ≤ c.scn → Each (IsKept table q) (map (part_touch (suc c.scn) n true) a.touched) → AsBefore table (base_now c) (with_table (base_now c) n a.table)
+alter_leaves c n a change cut table q low kept = by (cut_touches (kept_versions c) (base_now c) n (table_at (base_now c) n) a (cut_by (kept_versions c) (base_now c) n (table_at (base_now c) n) change a cut))
+  where
+    by : (a.touched ≡ [] → ⊥) ⊎ ((on : Bool) × (a ≡ with_movement (table_at (base_now c) n) on)) → AsBefore table (base_now c) (with_table (base_now c) n a.table)
+    by (inl some) =
+        as_other (base_now c) n table a.table (and_first (n == table) (nat_lt q (suc c.scn)) (lt-ltb q (suc c.scn) (omega (arith, low))) (head_kept table q (suc c.scn) n a.touched some kept))
+    by (inr moves) =
+        let many : length (with_table (base_now c) n a.table) ≡ length (base_now c) = with_length (base_now c) n a.table in
+        record {
+          rows = still_rows (base_now c) n table a.table (ap (λ (a : Altering). a.table.rows) moves.1);
+          whole = λ there. still_whole (base_now c) n table a.table (ap (λ (a : Altering). still_table a.table) moves.1);
+          grown = omega arith;
+        }
+
+alter_untouched : (c : Catalog) (n : ℕ) (a : Altering) (change : PartChange) → alter_part (kept_versions c) (base_now c) n (table_at (base_now c) n) change ≡ Ok a → Untouched c → Untouched (altered c n a)
+alter_untouched c n a change cut h =
+    untouched_based c (altered c n a) (with_table (base_now c) n a.table) [] (map (part_touch (suc c.scn) n true) a.touched) refl (base_altered c n a) (sym (append-nil c.changes)) refl
+    (λ table q low spared kept. alter_leaves c n a change cut table q low kept) h
 
 create_untouched : (c : Catalog) (t : Table) → t.rows ≡ [] → Untouched c → Untouched (with_base c (base_now c ++ t ∷ []))
 create_untouched c t none h =
@@ -188,16 +226,18 @@ move_untouched : (s : State) (x : Event) (d : Catalog) → IsBounded s.catalog �
 move_untouched s x d bounded (Stays is) h = subst Untouched (sym is) h
 move_untouched s x d bounded (Commits p ss same block is) h = subst Untouched (sym is) (commit_untouched s.catalog p ss same h)
 move_untouched s x d bounded (Creates t new fits is) h = subst Untouched (sym is) (create_untouched s.catalog (defined (defs_now s.catalog) t) refl h)
-move_untouched s x d bounded (Alters n a same change cut is) h = subst Untouched (sym is) (alter_untouched s.catalog n a h)
-move_untouched s x d bounded (Logs logs is) h =
+move_untouched s x d bounded (Alters n a same change form cut is) h = subst Untouched (sym is) (alter_untouched s.catalog n a change cut h)
+move_untouched s x d bounded (Logs logs made is) h =
     let later : Catalog = record (next_scn s.catalog) { logs = logs } in
     subst Untouched (sym is) (untouched_same s.catalog later (base_later s.catalog later refl (omega arith) bounded) refl refl refl h)
-move_untouched s x d bounded (Purges logs is) h = subst Untouched (sym is) h
+move_untouched s x d bounded (Purges logs purge is) h = subst Untouched (sym is) h
 move_untouched s x d bounded (Forgets oldest more undo is) h = subst Untouched (sym is) h
-move_untouched s x d bounded (Adds v q new is) h = subst Untouched (sym is) h
+move_untouched s x d bounded (Adds v w new star is) h = subst Untouched (sym is) h
 move_untouched s x d bounded (Switches n f keeps is) h = subst Untouched (sym is) h
-move_untouched s x d bounded (Installs n b begun is) h = subst Untouched (sym is) h
-move_untouched s x d bounded (Drops n is) h = subst Untouched (sym is) h
+move_untouched s x d bounded (Installs b ps begun takes is) h =
+    let same : SamePast s.catalog (installed ps s.catalog) = installed_past s.catalog ps in
+    subst Untouched (sym is) (untouched_same s.catalog (installed ps s.catalog) (installed_base s.catalog ps) same.past same.changes same.touches h)
+move_untouched s x d bounded (Drops n free is) h = subst Untouched (sym is) h
 move_untouched s x d bounded (Declares a new is) h = subst Untouched (sym is) h
 move_untouched s x d bounded (Withdraws name is) h = subst Untouched (sym is) h
 
@@ -251,7 +291,7 @@ spared_of c table q bounded none =
     (each_two (λ n. n.scn ≤ c.scn) (λ n. ((n.table == table) && within q c.scn n.scn) ≡ false) c.changes bounded
     (filter_nil (λ n. (n.table == table) && within q c.scn n.scn) c.changes (map_nil (λ n. n.change) (noted_changes c table q c.scn) none)))
 
-kept_of : (c : Catalog) (table q : ℕ) → Each (λ t. t.touch.scn ≤ c.scn) c.touches → maintained c table q c.scn ≡ false → Each (IsKept table q) c.touches
+pub kept_of : (c : Catalog) (table q : ℕ) → Each (λ t. t.touch.scn ≤ c.scn) c.touches → maintained c table q c.scn ≡ false → Each (IsKept table q) c.touches
 kept_of c table q bounded none =
     each_weaker (λ t. (t.touch.scn ≤ c.scn) × ((t.by_maintenance && ((t.table == table) && within q c.scn t.touch.scn)) ≡ false)) (IsKept table q)
     (λ t both. without_inner t.by_maintenance (t.table == table) (nat_lt q t.touch.scn) (nat_le t.touch.scn c.scn) (le_true t.touch.scn c.scn both.0) both.1) c.touches

@@ -2,6 +2,7 @@
 use Rattle.std.proofs.Common.{◌≡◌, ◌∙◌, sym, ap, refl, subst, arith, ℕ, suc, ◌<◌, ◌≤◌, Bool, true, false, cond, not, List, [], ◌∷◌, ◌++◌, Option, None, Some, ◌==◌}
 use Rattle.std.specs.List.{filter, find, fold}
 use Rattle.std.specs.Prelude.{option_map}
+use Rattle.wh_base.specs.declared.statements.NewView.{NewView}
 use Rattle.wh_base.specs.declared.statements.Event.{Event}
 use Rattle.wh_base.specs.declared.views.ViewDef.{ViewDef}
 use Rattle.def_history.specs.Catalog.{Catalog, View, view_numbered}
@@ -9,10 +10,10 @@ use Rattle.def_journal.specs.Committing.{after_block}
 use Rattle.def_journal.specs.Journal.{state_after, state_of}
 use Rattle.def_journal.specs.Refreshing.{change_view, refreshed_to}
 use Rattle.def_journal.specs.State.{State, empty_state}
-use Rattle.def_journal.specs.Statements.{new_view, with_view}
-use Rattle.wh_trace.proofs.Due.{KeepsDue, dues_keep, suspended}
-use Rattle.wh_trace.proofs.Listed.{Each, Pairs, each_append, each_filter, each_found, each_map, each_weaker, eq_false, find_changed, find_has, find_left, find_pushed, none_not_some, some_same, pairs_filter, pairs_map, pairs_push}
-use Rattle.wh_trace.proofs.Moves.{Adds, Alters, Commits, Creates, Declares, Drops, Forgets, Installs, Logs, Move, Purges, Stays, Switches, Withdraws}
+use Rattle.def_journal.specs.Statements.{with_view}
+use Rattle.wh_trace.proofs.Due.{KeepsDue, dues_keep, installs_keep, suspended}
+use Rattle.wh_trace.proofs.Listed.{Each, Pairs, each_append, each_every, each_filter, each_found, each_map, each_weaker, eq_false, find_changed, find_has, find_left, find_pushed, none_not_some, some_same, pairs_filter, pairs_map, pairs_push}
+use Rattle.wh_trace.proofs.Moves.{Adds, Alters, Commits, Creates, Declares, Drops, Forgets, Installs, Logs, Move, Purges, Stays, MakesView, Over, Plain, Switches, Withdraws, installed}
 use Rattle.wh_trace.proofs.Stepping.{moves}
 use Rattle.wh_trace.proofs.Traces.{state_more}
 use Rattle.wh_trace.specs.Reached.{IsSameView, catalog_of}
@@ -106,20 +107,34 @@ due_follows c =
       refreshes = λ d n h. follows_on c d (change_view n (refreshed_to d.scn) d) h (follows_changed d n (refreshed_to d.scn) (λ v. refl));
     }
 
+installed_follows : (c : Catalog) (ps : List (ℕ × ℕ)) → Follows c (installed ps c)
+installed_follows c ps =
+    installs_keep (Follows c) (λ p. Unit {0}) (λ d p q h. follows_on c d (change_view p.0 (refreshed_to p.1) d) h (follows_changed d p.0 (refreshed_to p.1) (λ v. refl))) c ps
+    (each_every (λ p. Unit {0}) (λ p. tt) ps) (follows_same c c refl refl)
+
+-- a new view has the next number and the name that was asked for
+pub made_number : (c : Catalog) (v : NewView) (w : View) → MakesView c v w → w.def.view ≡ suc c.views_made
+made_number c v w (Plain q star is) = ap (λ (w : View). w.def.view) is
+made_number c v w (Over u q beneath star built is) = ap (λ (w : View). w.def.view) is
+
+pub made_name : (c : Catalog) (v : NewView) (w : View) → MakesView c v w → w.def.name ≡ v.name
+made_name c v w (Plain q star is) = ap (λ (w : View). w.def.name) is
+made_name c v w (Over u q beneath star built is) = ap (λ (w : View). w.def.name) is
+
 move_follows : (s : State) (x : Event) (d : Catalog) → Move s x d → Follows s.catalog d
 move_follows s x d (Stays is) = subst (Follows s.catalog) (sym is) (follows_same s.catalog s.catalog refl refl)
 move_follows s x d (Commits p statements same block is) =
     subst (Follows s.catalog) (sym is)
     (dues_keep (Follows s.catalog) (due_follows s.catalog) (after_block s.catalog p) p.changes (follows_same s.catalog (after_block s.catalog p) refl refl))
 move_follows s x d (Creates t new fits is) = subst (Follows s.catalog) (sym is) (follows_same s.catalog _ refl refl)
-move_follows s x d (Alters n a same change cut is) = subst (Follows s.catalog) (sym is) (follows_same s.catalog _ refl refl)
-move_follows s x d (Logs logs is) = subst (Follows s.catalog) (sym is) (follows_same s.catalog _ refl refl)
-move_follows s x d (Purges logs is) = subst (Follows s.catalog) (sym is) (follows_same s.catalog _ refl refl)
+move_follows s x d (Alters n a same change form cut is) = subst (Follows s.catalog) (sym is) (follows_same s.catalog _ refl refl)
+move_follows s x d (Logs logs made is) = subst (Follows s.catalog) (sym is) (follows_same s.catalog _ refl refl)
+move_follows s x d (Purges logs purge is) = subst (Follows s.catalog) (sym is) (follows_same s.catalog _ refl refl)
 move_follows s x d (Forgets oldest more undo is) = subst (Follows s.catalog) (sym is) (follows_same s.catalog _ refl refl)
-move_follows s x d (Adds v q new is) = subst (Follows s.catalog) (sym is) (follows_added s.catalog (new_view s.catalog v q) refl)
+move_follows s x d (Adds v w new star is) = subst (Follows s.catalog) (sym is) (follows_added s.catalog w (made_number s.catalog v w star))
 move_follows s x d (Switches n f keeps is) = subst (Follows s.catalog) (sym is) (follows_changed s.catalog n f keeps.def)
-move_follows s x d (Installs n b begun is) = subst (Follows s.catalog) (sym is) (follows_changed s.catalog n (refreshed_to b.image.scn) (λ v. refl))
-move_follows s x d (Drops n is) = subst (Follows s.catalog) (sym is) (follows_dropped s.catalog n)
+move_follows s x d (Installs b ps begun takes is) = subst (Follows s.catalog) (sym is) (installed_follows s.catalog ps)
+move_follows s x d (Drops n free is) = subst (Follows s.catalog) (sym is) (follows_dropped s.catalog n)
 move_follows s x d (Declares a new is) = subst (Follows s.catalog) (sym is) (follows_same s.catalog _ refl refl)
 move_follows s x d (Withdraws name is) = subst (Follows s.catalog) (sym is) (follows_same s.catalog _ refl refl)
 
@@ -199,14 +214,14 @@ move_ordered s x d (Stays is) h = subst Ordered (sym is) h
 move_ordered s x d (Commits p statements same block is) h =
     subst Ordered (sym is) (dues_keep Ordered due_ordered (after_block s.catalog p) p.changes (ordered_same s.catalog (after_block s.catalog p) refl refl h))
 move_ordered s x d (Creates t new fits is) h = subst Ordered (sym is) (ordered_same s.catalog _ refl refl h)
-move_ordered s x d (Alters n a same change cut is) h = subst Ordered (sym is) (ordered_same s.catalog _ refl refl h)
-move_ordered s x d (Logs logs is) h = subst Ordered (sym is) (ordered_same s.catalog _ refl refl h)
-move_ordered s x d (Purges logs is) h = subst Ordered (sym is) (ordered_same s.catalog _ refl refl h)
+move_ordered s x d (Alters n a same change form cut is) h = subst Ordered (sym is) (ordered_same s.catalog _ refl refl h)
+move_ordered s x d (Logs logs made is) h = subst Ordered (sym is) (ordered_same s.catalog _ refl refl h)
+move_ordered s x d (Purges logs purge is) h = subst Ordered (sym is) (ordered_same s.catalog _ refl refl h)
 move_ordered s x d (Forgets oldest more undo is) h = subst Ordered (sym is) (ordered_same s.catalog _ refl refl h)
-move_ordered s x d (Adds v q new is) h = subst Ordered (sym is) (ordered_added s.catalog (new_view s.catalog v q) refl h)
+move_ordered s x d (Adds v w new star is) h = subst Ordered (sym is) (ordered_added s.catalog w (made_number s.catalog v w star) h)
 move_ordered s x d (Switches n f keeps is) h = subst Ordered (sym is) (ordered_changed s.catalog n f keeps.def h)
-move_ordered s x d (Installs n b begun is) h = subst Ordered (sym is) (ordered_changed s.catalog n (refreshed_to b.image.scn) (λ v. refl) h)
-move_ordered s x d (Drops n is) h = subst Ordered (sym is) (ordered_dropped s.catalog n h)
+move_ordered s x d (Installs b ps begun takes is) h = subst Ordered (sym is) (installs_keep Ordered (λ p. Unit {0}) (λ c p q h. ordered_changed c p.0 (refreshed_to p.1) (λ v. refl) h) s.catalog ps (each_every (λ p. Unit {0}) (λ p. tt) ps) h)
+move_ordered s x d (Drops n free is) h = subst Ordered (sym is) (ordered_dropped s.catalog n h)
 move_ordered s x d (Declares a new is) h = subst Ordered (sym is) (ordered_same s.catalog _ refl refl h)
 move_ordered s x d (Withdraws name is) h = subst Ordered (sym is) (ordered_same s.catalog _ refl refl h)
 

@@ -1,14 +1,20 @@
 -- What is said of the catalogs that a trace goes through.
-use Rattle.std.specs.Prelude.{◌≡◌, ◌≤◌, Bool, List, None, Some, false, negsuc, pos, true, ℕ, ℤ, ◌++◌, ◌==◌, ◌∷◌, option_and_then, option_map}
+use Rattle.std.specs.Prelude.{◌≡◌, ◌≤◌, Bool, List, None, Some, false, map, negsuc, pos, true, ℕ, ℤ, ◌++◌, ◌==◌, ◌∷◌, ◌⊎◌, option_and_then, option_map}
 use Rattle.wh_base.specs.declared.statements.Command.{Command}
-use Rattle.wh_base.specs.declared.statements.Command.TheVariants.{Block, Other}
+use Rattle.wh_base.specs.Parts.{entry_bearer}
+use Rattle.wh_base.specs.declared.statements.Command.TheVariants.{Block, Other, Submit}
 use Rattle.wh_base.specs.declared.statements.Event.{Event}
+use Rattle.wh_base.specs.declared.statements.PartChange.{PartChange}
+use Rattle.wh_base.specs.declared.statements.PartChange.TheVariants.{Merge, Split}
 use Rattle.wh_base.specs.declared.statements.PurgeStatement.{PurgeStatement}
 use Rattle.wh_base.specs.declared.statements.PurgeStatement.TheVariants.{PurgeLog, PurgeUndo}
 use Rattle.wh_base.specs.declared.statements.RefreshView.{RefreshView}
 use Rattle.wh_base.specs.declared.statements.SessionStatement.TheVariants.{ReadOnly}
 use Rattle.wh_base.specs.declared.statements.Statement.{Statement}
+use Rattle.wh_base.specs.declared.statements.TableStatement.{TableStatement}
+use Rattle.wh_base.specs.declared.statements.TableStatement.TheVariants.{AlterTable, CreateTable}
 use Rattle.wh_base.specs.declared.statements.Statement.TheVariants as about
+use Rattle.wh_base.specs.Tables.{Table}
 use Rattle.wh_base.specs.declared.views.ViewDef.{ViewDef}
 use Rattle.wh_base.specs.declared.tables.TableDef.{TableDef}
 use Rattle.def_history.specs.Catalog.{Catalog, View, base_at, defs_now, view_named, view_numbered}
@@ -20,26 +26,38 @@ use Rattle.def_journal.specs.State.{Begun}
 abbrev pub catalog_of : List Event → Catalog
 catalog_of trace = (state_of trace).catalog
 
--- The event is one of this session.
+-- The event is one of the session, or of the worker, with this number.
 abbrev pub is_of : ℕ → Event → Bool
-is_of n e = e.entry.session == n
+is_of n e = entry_bearer e.entry == n
 
 -- The number is below zero.
 abbrev pub is_below_zero : ℤ → Bool
 is_below_zero (pos n) = false
 is_below_zero (negsuc n) = true
 
--- The command is a block or a PURGE UNDO: no other changes how many row versions are kept.
+-- The form gives rows new rowids.
+abbrev pub renumbers : PartChange → Bool
+renumbers (Split s) = true
+renumbers (Merge s) = true
+renumbers change = false
+
+-- The command is a block, a SPLIT, a MERGE or a PURGE UNDO: no other changes how many row versions are kept.
 abbrev pub changes_versions : Command → Bool
 changes_versions (Block b) = true
+changes_versions (Submit statement) = false
 changes_versions (Other statement) = statement_changes statement
   where
     is_undo : PurgeStatement → Bool
     is_undo (PurgeLog name) = false
     is_undo (PurgeUndo n) = true
 
+    table_changes : TableStatement → Bool
+    table_changes (CreateTable t) = false
+    table_changes (AlterTable t) = renumbers t.change
+
     statement_changes : Statement → Bool
     statement_changes (about.Purge p) = is_undo p
+    statement_changes (about.Table t) = table_changes t
     statement_changes statement = false
 
 -- The event is a PURGE UNDO that asks for an SCN below zero. No text has one: there the number has no sign.
@@ -57,10 +75,23 @@ asks_below_zero e = command_asks e.command
     command_asks : Command → Bool
     command_asks (Block b) = false
     command_asks (Other statement) = statement_asks statement
+    command_asks (Submit statement) = false
 
 -- One definition is the other but for ENABLE or DISABLE QUERY REWRITE: the same number, name, query, tables, text, method and ON COMMIT.
 abbrev pub IsSameView : ViewDef → ViewDef → Type 0
 IsSameView d e = e ≡ record d { rewrite = e.rewrite }
+
+-- The definition without its row movement, which ALTER TABLE may change.
+abbrev pub still : TableDef → TableDef
+still d = record d { movement = false }
+
+-- The table without it.
+abbrev pub still_table : Table → Table
+still_table t = record t { def = still t.def }
+
+-- The definitions of all tables without it.
+abbrev pub stills : Catalog → List TableDef
+stills c = map still (defs_now c)
 
 -- All that a later catalog d keeps of an earlier one: the past up to the SCN of then, the views by their numbers, and the tables.
 pub record Precedes (c d : Catalog) : Type 0 where
@@ -72,7 +103,7 @@ pub record Precedes (c d : Catalog) : Type 0 where
   pub made : c.views_made ≤ d.views_made
   pub same : (n : ℕ) (v w : View) → view_numbered c n ≡ Some v → view_numbered d n ≡ Some w → IsSameView v.def w.def
   pub gone : (n : ℕ) → n ≤ c.views_made → view_numbered c n ≡ None → view_numbered d n ≡ None
-  pub tables : (later : List TableDef) × (defs_now d ≡ defs_now c ++ later)
+  pub tables : (later : List TableDef) × (stills d ≡ stills c ++ later)
 
 -- What the begin of a refresh of the view with this name keeps of a catalog.
 abbrev pub begun_over : Catalog → List ℕ → Begun
@@ -83,16 +114,19 @@ begun_over c name =
       image = c;
     }
 
--- A front of the trace ends before the begin of a refresh by this session, and this is what that begin kept of its catalog.
+-- The event begins a refresh: it is part 1 of a REFRESH by a session, or part 2 of one that was submitted, by a worker.
+abbrev pub BeginsRefresh : Event → RefreshView → Type 0
+BeginsRefresh e r = ((e.command ≡ Other (about.Refresh r)) × (e.entry.part ≡ 1)) ⊎ ((e.command ≡ Submit (about.Refresh r)) × (e.entry.part ≡ 2))
+
+-- A front of the trace ends before the begin of a refresh by this session or worker, and this is what that begin kept of its catalog.
 pub record HasBegun (trace : List Event) (n : ℕ) (b : Begun) : Type 0 where
   pub front : List Event
   pub event : Event
   pub rest : List Event
   pub asked : RefreshView
   pub is : trace ≡ front ++ event ∷ rest
-  pub session : event.entry.session ≡ n
-  pub part : event.entry.part ≡ 1
-  pub command : event.command ≡ Other (about.Refresh asked)
+  pub session : entry_bearer event.entry ≡ n
+  pub begins : BeginsRefresh event asked
   pub kept : b ≡ begun_over (catalog_of front) asked.name
 
 -- A front of the trace ends before a SET TRANSACTION READ ONLY of this session, and this is its catalog.
@@ -101,6 +135,6 @@ pub record HasOpened (trace : List Event) (n : ℕ) (image : Catalog) : Type 0 w
   pub event : Event
   pub rest : List Event
   pub is : trace ≡ front ++ event ∷ rest
-  pub session : event.entry.session ≡ n
+  pub session : entry_bearer event.entry ≡ n
   pub command : event.command ≡ Other (about.Session ReadOnly)
   pub kept : image ≡ catalog_of front

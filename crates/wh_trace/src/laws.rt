@@ -1,6 +1,6 @@
 //! The laws of traces, in the words of `specs/Laws.antt`. None of these functions does anything: their contracts hold of every
 //! trace of every command, with all its refusals.
-ghost use Rattle.wh_trace.specs.Laws.{BaseLaws, ChangeLaws, ImageLaws, InstallLaws, RowLaws, SessionLaws, TableLaws, UntouchedLaws, VersionLaws, ViewLaws};
+ghost use Rattle.wh_trace.specs.Laws.{BaseLaws, ChangeLaws, ImageLaws, InstallLaws, NestLaws, RowLaws, SessionLaws, TableLaws, UntouchedLaws, VersionLaws, ViewLaws};
 
 /// An event of a session leaves every other session as it is.
 pub fn sessions_stand_apart()
@@ -20,6 +20,11 @@ pub fn changes_stay()
 /// A view's number is its own for ever, and all of its definition but `rewrite` stays.
 pub fn views_stay()
     ensures { ViewLaws }
+{}
+
+/// A view over a view is never registered, and the view beneath is there.
+pub fn nested_views_stand()
+    ensures { NestLaws }
 {}
 
 /// What a session keeps of the catalog is the catalog of a front of the trace.

@@ -24,7 +24,7 @@ use Rattle.def_rewriting.specs.Matching.{FullText, NoText, PartialText, TextMatc
 use Rattle.def_rewriting.specs.Reaching.{reach}
 use Rattle.wh_trace.proofs.Listed.{Each, Pairs, each_two, each_weaker, none_not_some, some_same}
 use Rattle.wh_trace.proofs.Viewing.{IsBefore}
-use Rattle.wh_view_law.proofs.Tested.{both_left, both_right}
+use Rattle.wh_trace.proofs.Tested.{both_left, both_right}
 
 -- what a chosen view meets
 pub record Meets (q : StarQuery) (text : List Token) (c : Catalog) (v : View) (back : List Back) : Type 0 where

@@ -1,14 +1,8 @@
-mod Tested
 mod Sizes
 mod Stepping
 mod Plain
 mod Texts
 mod Chosen
-mod Changes
-mod Marks
-mod Blocks
-mod Cuts
-mod Outside
 mod Tuples
 mod Misses
 mod Serving

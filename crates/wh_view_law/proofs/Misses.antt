@@ -35,7 +35,7 @@ use Rattle.wh_star.proofs.Within.{never-misses, ranges-within}
 use Rattle.wh_star.specs.Marked.{is_pair, no_pairs, without_pairs}
 use Rattle.wh_trace.proofs.Basing.{none_first, none_rest, none_where}
 use Rattle.wh_trace.specs.Rows.{Fits}
-use Rattle.wh_view_law.proofs.Tested.{both_left, both_right, both_hold, was_true}
+use Rattle.wh_trace.proofs.Tested.{both_left, both_right, both_hold, was_true}
 
 -- ---- no condition of a star form compares with a pair
 

@@ -1,11 +1,10 @@
 -- A view that is chosen under ENFORCED stores what the query means.
-use Rattle.std.proofs.Common.{◌≡◌, ◌∙◌, sym, ap, refl, subst, arith, ℕ, zero, suc, ◌<◌, ◌≤◌, Bool, true, false, true≢false, cond, not, List, [], ◌∷◌, ◌++◌, length, map, Option, None, Some, nat_le, nat_lt, ◌==◌, ◌&&◌}
+use Rattle.std.proofs.Common.{◌≡◌, ◌∙◌, sym, ap, refl, subst, arith, ℕ, zero, suc, ◌<◌, Bool, true, false, true≢false, cond, not, List, [], ◌∷◌, ◌++◌, length, map, Option, None, Some, ◌==◌, ◌&&◌}
 use Rattle.std.specs.List.{filter, list_all, list_any}
 use Rattle.std.specs.Prelude.{Ok, is_none, is_some, nat_abs, option_and_then, option_map, unwrap_or, zip, ℤ}
-use Rattle.std.proofs.lemmas.Bool.{eq-eqb, eqb-true, ltb-false, ltb-true}
+use Rattle.std.proofs.lemmas.Bool.{eq-eqb, eqb-true}
 use Rattle.wh_base.specs.Lists.{first_of, option_case, sorted_by}
-use Rattle.wh_base.specs.Tables.{Base, Row, Table, def_at, defs_of, row_at, table_at, value_at}
-use Rattle.wh_base.specs.Values.{interval_has}
+use Rattle.wh_base.specs.Tables.{Base, Row, def_at, defs_of, row_at, table_at, value_at}
 use Rattle.wh_base.specs.declared.columns.ColPart.TheVariants.{Col}
 use Rattle.wh_base.specs.declared.columns.ColRef.{ColRef}
 use Rattle.wh_base.specs.declared.queries.RawQuery.{RawQuery}
@@ -29,8 +28,8 @@ use Rattle.def_choice.specs.Choice.{base_then, choice}
 use Rattle.def_choice.specs.Eligible.{is_fresh_enough}
 use Rattle.def_grammar.specs.Query.{select}
 use Rattle.def_grammar.specs.Reading.{whole}
-use Rattle.def_history.specs.Catalog.{Catalog, Touched, View, base_at, base_now, defs_now}
-use Rattle.def_history.specs.History.{touches_of, within}
+use Rattle.def_history.specs.Catalog.{Catalog, View, base_at, base_now, defs_now}
+use Rattle.def_history.specs.History.{touches_of}
 use Rattle.def_history.specs.Staleness.{content, facts_of, known, stale_intervals, touches_after}
 use Rattle.def_meaning.specs.Joined.{column_value, conditions_true, edge_true, part_value, product, row_of, rows_at, tuple_true}
 use Rattle.def_meaning.specs.Meaning.{entries, entry_cmp, in_order, meaning, stored}
@@ -46,18 +45,16 @@ use Rattle.wh_star.specs.Marked.{is_pair}
 use Rattle.wh_text_law.specs.Unordered.{unordered, without_order}
 use Rattle.wh_trace.proofs.Basing.{none_each, none_first, none_rest, none_where}
 use Rattle.wh_trace.proofs.Fitting.{AllFit, trace_fits}
-use Rattle.wh_trace.proofs.Growing.{reached, touches_bounded}
-use Rattle.wh_trace.proofs.Listed.{Each, each_found, each_made, each_map, each_two, each_unmap, each_weaker, le_true, or_first, or_second}
+use Rattle.wh_trace.proofs.Listed.{Each, each_found, each_made, each_map, each_unmap, each_weaker, or_first, or_second}
 use Rattle.wh_trace.proofs.Viewing.{trace_ordered}
 use Rattle.wh_trace.specs.Reached.{catalog_of}
 use Rattle.wh_trace.specs.Rows.{Fits}
-use Rattle.wh_view_law.proofs.Tested.{both_left, both_right, was_false}
-use Rattle.wh_view_law.proofs.Blocks.{IsOutside}
-use Rattle.wh_view_law.proofs.Changes.{table_past, unmoved}
+use Rattle.wh_trace.proofs.Tested.{both_left, both_right, was_false}
+use Rattle.wh_trace.proofs.Changes.{unmoved}
 use Rattle.wh_view_law.proofs.Chosen.{IsChosen, chosen}
-use Rattle.wh_view_law.proofs.Marks.{IsPlaced, kept, kept_of, marked, part_for, placed_of, row_marked, stays}
 use Rattle.wh_view_law.proofs.Misses.{missed_all, plain_query, plain_value}
-use Rattle.wh_view_law.proofs.Outside.{Avoids, IsSame, fit_at, trace_outside}
+use Rattle.wh_trace.proofs.Sparing.{keeps, outside, same_kept, avoids_touches}
+use Rattle.wh_trace.proofs.Outside.{IsSame, fit_at, trace_outside}
 use Rattle.wh_view_law.proofs.Texts.{LaterTables, each_text, resolved_now}
 use Rattle.wh_view_law.proofs.Tuples.{IsNeeded, Once, fewer, fewer_tuples, once_in}
 use Rattle.wh_view_law.specs.Laws.{Answers, IsOfText, Serves}
@@ -108,92 +105,6 @@ tuples q base = filter (tuple_true q) (product (map (rows_at base) q.tables))
 
 stored_same : (q : StarQuery) (a b : Base) → tuples q a ≡ tuples q b → stored q a ≡ stored q b
 stored_same q a b same = ap (λ (ts : List (List RowAt)). sorted_by entry_cmp (entries (column_value q.tables) q ts)) same
-
--- ---- rows whose keys are asked for
-
-abbrev keeps : (Value → Bool) → ℕ → RowAt → Bool
-keeps out k r = out (value_at r.values k)
-
-and_one : (a b : Bool) → b ≡ true → (a && b) ≡ a
-and_one true b e = e
-and_one false b e = refl
-
-seen_rows : (out : Value → Bool) (t : Table) (k : ℕ) (rows : List Row) → t.def.part_key ≡ Some k → Each (IsPlaced t.def.part_key t.parts) rows
-    → filter (keeps out k) (map (row_at t) rows) ≡ kept out t.def.part_key t.parts rows
-seen_rows out t k [] is placed = refl
-seen_rows out t k (r ∷ rows) is placed = by (keeps out k (row_at t r)) same (seen_rows out t k rows is placed.1)
-  where
-    here : is_some (part_for t.parts (value_at r.values k)) ≡ true
-    here = sym (ap (λ o. option_case o true (λ k. is_some (part_for t.parts (value_at r.values k)))) is) ∙ placed.0
-
-    same : stays out t.def.part_key t.parts r.values ≡ keeps out k (row_at t r)
-    same = ap (λ o. stays out o t.parts r.values) is ∙ and_one (out (value_at r.values k)) (is_some (part_for t.parts (value_at r.values k))) here
-
-    also : (b : Bool) → filter (keeps out k) (map (row_at t) rows) ≡ kept out t.def.part_key t.parts rows
-        → cond b (row_at t r ∷ filter (keeps out k) (map (row_at t) rows)) (filter (keeps out k) (map (row_at t) rows))
-        ≡ map (marked t.def.part_key t.parts) (cond b (r ∷ filter (λ q. stays out t.def.part_key t.parts q.values) rows) (filter (λ q. stays out t.def.part_key t.parts q.values) rows))
-    also true rest = λ i. row_marked t r i ∷ rest i
-    also false rest = rest
-
-    by : (b : Bool) → stays out t.def.part_key t.parts r.values ≡ b → filter (keeps out k) (map (row_at t) rows) ≡ kept out t.def.part_key t.parts rows
-        → cond b (row_at t r ∷ filter (keeps out k) (map (row_at t) rows)) (filter (keeps out k) (map (row_at t) rows)) ≡ kept out t.def.part_key t.parts (r ∷ rows)
-    by b e rest =
-        also b rest
-        ∙ sym (ap (λ c. map (marked t.def.part_key t.parts) (cond c (r ∷ filter (λ q. stays out t.def.part_key t.parts q.values) rows) (filter (λ q. stays out t.def.part_key t.parts q.values) rows))) e)
-
-seen_kept : (out : Value → Bool) (base : Base) (n k : ℕ) → (table_at base n).def.part_key ≡ Some k → AllFit (table_at base n) → filter (keeps out k) (rows_at base n) ≡ kept_of out (table_at base n)
-seen_kept out base n k is fit =
-    let t : Table = table_at base n in
-    seen_rows out t k t.rows is (each_weaker (λ r. Fits t r.values) (IsPlaced t.def.part_key t.parts) (λ r h. placed_of t r h.placed) t.rows fit)
-
--- of a table with a partition key now, the rows that are asked for are the same at both times
-same_kept : (out : Value → Bool) (n k : ℕ) (then now : Base) → IsSame out n then now → (table_at now n).def.part_key ≡ Some k → AllFit (table_at now n)
-    → filter (keeps out k) (rows_at then n) ≡ filter (keeps out k) (rows_at now n)
-same_kept out n k then now same is fit = by (nat_lt n (length then)) refl ∙ same.rows ∙ sym (seen_kept out now n k is fit)
-  where
-    by : (b : Bool) → nat_lt n (length then) ≡ b → filter (keeps out k) (rows_at then n) ≡ kept_of out (table_at then n)
-    by true e =
-        let def : (table_at now n).def ≡ (table_at then n).def = same.def (ltb-true n (length then) e) in
-        seen_kept out then n k (sym (ap (λ (d : TableDef). d.part_key) def) ∙ is) same.fit
-    by false e =
-        let none : (table_at then n).rows ≡ [] = table_past then n (ltb-false n (length then) e) in
-        ap (λ (rs : List Row). filter (keeps out k) (map (row_at (table_at then n)) rs)) none
-        ∙ sym (ap (λ (rs : List Row). kept out (table_at then n).def.part_key (table_at then n).parts rs) none)
-
--- ---- outside of the intervals that were touched
-
--- the value is in none of these intervals
-abbrev outside : List Interval → Value → Bool
-outside is v = not (any_has v is)
-
-touch_outside : (test : Touched → Bool) (all : List Interval) (xs : List Touched)
-    → ((v : Value) → any_has v all ≡ false → any_has v (map (λ t. t.interval) (map (λ t. t.touch) (filter test xs))) ≡ false)
-    → Each (λ t. test t ≡ true → IsOutside (outside all) t.touch.interval) xs
-touch_outside test all [] h = tt
-touch_outside test all (x ∷ xs) h = by (test x) refl h (touch_outside test all xs)
-  where
-    by : (b : Bool) → test x ≡ b
-        → ((v : Value) → any_has v all ≡ false → any_has v (map (λ t. t.interval) (map (λ t. t.touch) (cond b (x ∷ filter test xs) (filter test xs)))) ≡ false)
-        → (((v : Value) → any_has v all ≡ false → any_has v (map (λ t. t.interval) (map (λ t. t.touch) (filter test xs))) ≡ false) → Each (λ t. test t ≡ true → IsOutside (outside all) t.touch.interval) xs)
-        → (test x ≡ true → IsOutside (outside all) x.touch.interval) × Each (λ t. test t ≡ true → IsOutside (outside all) t.touch.interval) xs
-    by true e k rest = (
-      λ f v free. or_first (interval_has x.touch.interval v) (any_has v (map (λ t. t.interval) (map (λ t. t.touch) (filter test xs)))) (k v (was_false (any_has v all) free)),
-      rest (λ v none. or_second (interval_has x.touch.interval v) (any_has v (map (λ t. t.interval) (map (λ t. t.touch) (filter test xs)))) (k v none)),
-    )
-    by false e k rest = (λ f. absurd (true≢false (sym f ∙ e)), rest k)
-
-three_true : (a b c : Bool) → (a && b) ≡ true → c ≡ true → (a && (b && c)) ≡ true
-three_true true b c h k = ap (λ x. x && c) h ∙ k
-three_true false b c h k = absurd (cc)
-
-avoids_touches : (trace : List Event) (n p : ℕ) → Each (Avoids (outside (map (λ t. t.interval) (touches_of (catalog_of trace) n p (catalog_of trace).scn))) n p) (catalog_of trace).touches
-avoids_touches trace n p =
-    let c : Catalog = catalog_of trace in
-    let all : List Interval = map (λ t. t.interval) (touches_of c n p c.scn) in
-    each_weaker (λ t. (t.touch.scn ≤ c.scn) × (((t.table == n) && within p c.scn t.touch.scn) ≡ true → IsOutside (outside all) t.touch.interval)) (Avoids (outside all) n p)
-    (λ t both e. both.1 (three_true (t.table == n) (nat_lt p t.touch.scn) (nat_le t.touch.scn c.scn) e (le_true t.touch.scn c.scn both.0))) c.touches
-    (each_two (λ t. t.touch.scn ≤ c.scn) (λ t. ((t.table == n) && within p c.scn t.touch.scn) ≡ true → IsOutside (outside all) t.touch.interval) c.touches
-    (touches_bounded c (reached trace)) (touch_outside (λ t. (t.table == n) && within p c.scn t.touch.scn) all c.touches (λ v none. none)))
 
 -- ---- a row that stands in a tuple
 

@@ -22,7 +22,7 @@ use Rattle.wh_trace.proofs.Basing.{KeepsBase, KeepsTable, base_holds, each_table
 use Rattle.wh_trace.proofs.Listed.{all_from, each_map}
 use Rattle.wh_trace.proofs.Untouched.{with_length}
 use Rattle.wh_trace.specs.Reached.{catalog_of}
-use Rattle.wh_view_law.proofs.Tested.{both_right, both_hold, was_true}
+use Rattle.wh_trace.proofs.Tested.{both_right, both_hold, was_true}
 use Rattle.wh_view_law.specs.Laws.{TableSizes, is_sized}
 
 -- ---- what no refusal of CREATE TABLE says

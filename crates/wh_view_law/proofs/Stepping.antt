@@ -156,11 +156,11 @@ view_leads s x (CreateView v) is =
     (λ none. bind_ok (Left s x) (resolve (defs_now c) v.asked.query) (λ q. made c v q)
     (λ q e. unless_ok (Left s x) (fast_form_refusal c (new_view c v q)) (with_view c (new_view c v q), build_reads c (new_view c v q))
     (λ fit. Makes v q is e refl)))
-view_leads s x (AlterView v) is = named_leads s x v.name (switched v.rewrite) (record { def = λ v. refl; point = λ v. refl })
+view_leads s x (AlterView v) is = named_leads s x v.name (switched v.rewrite) (record { def = λ v. refl; point = λ v. refl; registered = λ v e. e })
 view_leads s x (DropView name) is =
     let c : Catalog = s.catalog in
     bind_ok (Left s x) (the_view c name) (λ v. unread (record c { views = filter (λ w. not (w.def.view == v.def.view)) c.views })) (λ v e. Drops v.def.view refl)
-view_leads s x (Unregister name) is = named_leads s x name unregistered (record { def = λ v. refl; point = λ v. refl })
+view_leads s x (Unregister name) is = named_leads s x name unregistered (record { def = λ v. refl; point = λ v. refl; registered = λ v e. absurd (true≢false (sym e)) })
 
 dimension_leads : (s : State) (x : Event) (d : DimensionStatement) → Leads s x (dimension_change s.catalog d)
 dimension_leads s x (CreateDimension d) =

@@ -224,7 +224,7 @@ module _ (s : State) (x : Event) (d : Catalog) (known : Known s x d) (texts : Te
   views_told (Alters n f keeps is) =
       subst (Each (IsOfText d)) (sym is) (changed_each (IsOfText d) n f (λ v k. same_point d v (f v) (keeps.def v) (keeps.point v) k) s.catalog.views all_told)
   views_told (Installs b then now begun was found is) = subst (Each (IsOfText d)) (sym is) (installed_told b then now begun was found)
-  views_told (Drops n is) = subst (Each (IsOfText d)) (sym is) (each_filter (IsOfText d) (λ w. not (w.def.view == n)) s.catalog.views all_told)
+  views_told (Drops n free is) = subst (Each (IsOfText d)) (sym is) (each_filter (IsOfText d) (λ w. not (w.def.view == n)) s.catalog.views all_told)
 
 -- ---- the images of begins
 

@@ -10,7 +10,7 @@ use Rattle.wh_base.specs.declared.tables.TableDef.{TableDef}
 use Rattle.def_meaning.specs.Joined.{product, row_of}
 use Rattle.def_resolve.specs.Star.{IsTreeFrom, is_key_column, leads_outwards}
 use Rattle.wh_trace.proofs.Listed.{Each, each_weaker}
-use Rattle.wh_view_law.proofs.Tested.{both_left, both_right, or_right, was_false}
+use Rattle.wh_trace.proofs.Tested.{both_left, both_right, or_right, was_false}
 
 -- ---- a table that stands once
 

@@ -1,0 +1,12 @@
+pub mod Counts
+pub mod Folds
+pub mod Groups
+pub mod Columns
+pub mod Naming
+pub mod Summing
+pub mod Pairs
+pub mod Meeting
+pub mod Rolling
+pub mod Nested
+pub mod Placing
+pub mod Placed_law

@@ -1,0 +1,9 @@
+pub mod Listed
+pub mod Outcomes
+pub mod Standing
+pub mod Stepping
+pub mod Contents
+pub mod Turns
+pub mod Moving
+pub mod Always
+pub mod Rows
