@@ -1,6 +1,5 @@
 -- Which commands the program runs so far: those of a form that is built, and for a time the conditions here. Each command is
 -- built by itself, whatever stands before it.
-use Rattle.def_built.specs.Dates.{statement_has_no_date}
 use Rattle.def_built.specs.Forms.{block_form, change_form, is_built, statement_form}
 use Rattle.def_built.specs.declared.forms.Form.TheVariants as forms
 use Rattle.std.specs.List.{list_all}
@@ -98,11 +97,10 @@ part_of_block_is_built s = true
 abbrev pub block_is_built : List Statement → Bool
 block_is_built ss = is_built (block_form ss) && list_all part_of_block_is_built ss
 
--- a date is in no command that is built
 abbrev pub command_is_built : Command → Bool
-command_is_built (commands.Block b) = block_is_built b.statements && list_all statement_has_no_date b.statements
-command_is_built (commands.Other s) = statement_is_built s && statement_has_no_date s
-command_is_built (commands.Submit s) = is_built forms.Submit && (statement_is_built s && statement_has_no_date s)
+command_is_built (commands.Block b) = block_is_built b.statements
+command_is_built (commands.Other s) = statement_is_built s
+command_is_built (commands.Submit s) = is_built forms.Submit && statement_is_built s
 
 abbrev pub commands_are_built : List Command → Bool
 commands_are_built cs = list_all command_is_built cs

@@ -107,8 +107,8 @@ pub forms_not_built :
 unfolding built_script digits utf8_valid_len is_utf8 chars lib.Utf8.encode tokens_of front_of next_record strip_bom
 forms_not_built = refl
 
--- dates: a column of that kind, or a literal that is one
-pub dates_not_built :
+-- dates run: columns of that kind, and literals
+pub dates_built :
     built_alone (
     codes "CREATE TABLE T (A NUMBER, D DATE);"
     ∷ codes "INSERT INTO T VALUES (1, DATE '2024-02-29');"
@@ -120,9 +120,9 @@ pub dates_not_built :
     ∷ codes "CREATE MATERIALIZED VIEW V AS SELECT A FROM T WHERE D = DATE '2024-02-29';"
     ∷ codes "BEGIN; INSERT INTO T VALUES (1, DATE '2024-02-29'); COMMIT;"
     ∷ [])
-    ≡ replicate 9 (Err (record { line = 2; kind = NotBuilt }))
+    ≡ replicate 9 (Err (record { line = 2; kind = NoEnd }))
 unfolding built_script digits utf8_valid_len is_utf8 chars lib.Utf8.encode tokens_of front_of next_record strip_bom
-dates_not_built = refl
+dates_built = refl
 
 -- a refresh has two parts, and all else one
 pub order_too_long :
