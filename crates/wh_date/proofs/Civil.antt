@@ -7,7 +7,7 @@ use Rattle.jiff_core.proofs.CalendarLemmas.{day_count-epoch, day_count-lt_year}
 use Rattle.jiff_core.proofs.DateLemmas.{civil}
 use Rattle.jiff_core.proofs.MarchLemmas.{days_of_years-march_days, leap_day-shift}
 use Rattle.jiff_core.proofs.SignedLemmas.{signed_arith}
-use Rattle.jiff_core.specs.Calendar.{IsCivilDate, IsDate, IsEpochDay, day_count, days_from_civil, days_of_months as months_there, days_of_years as years_there}
+use Rattle.jiff_core.specs.Calendar.{IsCivilDate, IsDate, IsEpochDay, day_count, days_from_civil, days_in_month as month_there, days_of_months as months_there, days_of_years as years_there}
 use Rattle.jiff_core.specs.Date.{IsYmd, epoch_day}
 use Rattle.jiff_core.specs.March.{march_days}
 use Rattle.jiff_core.specs.declared.civil.date.Date.{Date as CivilDate}
@@ -28,10 +28,13 @@ years_same y =
     let leap = leap_day-shift (pos (suc y)) (suc y + 10000) refl in
     omega (arith, leap, days_of_years-march_days (suc y + 10000), march_shift (suc y), years_suc y, days_in_year-leap_day (suc y))
 
+month_same : (y m : ℕ) → month_there (pos y) m ≡ days_in_month y m
+month_same y m = grind (arith, nat_tests)
+
 months_same : (y n : ℕ) → months_there (pos y) n ≡ days_of_months y n
 unfolding months_there
 months_same y zero = refl
-months_same y (suc n) = ap (λ m. m + days_in_month y (suc n)) (months_same y n)
+months_same y (suc n) = λ i. months_same y n i + month_same y (suc n) i
 
 -- ---- days
 
@@ -74,14 +77,14 @@ in_calendar y m d h = record {
   first_month = omega (arith, signed_arith, h.1);
   last_month = omega (arith, signed_arith, h.1);
   first_day = omega (arith, signed_arith, h.2);
-  last_day = omega (arith, signed_arith, h.2);
+  last_day = omega (arith, signed_arith, h.2, month_same (suc y) m);
 }
 
 in_calendar_there : (y m d : ℕ) → IsCivil (date y m d) → IsDate (pos y) (pos m) (pos d)
 in_calendar_there y m d h = (
   omega (arith, signed_arith, h.last_year),
   omega (arith, signed_arith, h.first_month, h.last_month),
-  omega (arith, signed_arith, h.first_day, h.last_day),
+  omega (arith, signed_arith, h.first_day, h.last_day, month_same y m),
 )
 
 -- where the kit has no such date, neither have we
@@ -120,7 +123,7 @@ shown (pos (suc y)) m d h e =
       first_month = h.1.0;
       last_month = h.1.1;
       first_day = h.2.0;
-      last_day = h.2.1;
+      last_day = omega (arith, h.2.1, month_same (suc y) m);
     } in
     sym (ap date_of (number_same y m d h.2.0) ∙ date_of_number (date (suc y) m d) ours)
 
