@@ -1,5 +1,5 @@
 ghost use Rattle.std.specs.Prelude.{◌≡◌, IfOk, None, option_copied};
-ghost use Rattle.def_choice.specs.Choice.{choice};
+ghost use Rattle.def_choice.specs.Choice.{choice, class_is_built};
 ghost use Rattle.def_choice.specs.Eligible.{asks_freshness, holds_e9};
 ghost use Rattle.def_history.specs.Catalog.{Catalog};
 ghost use Rattle.wh_image.specs.Standing.{StandsFor};
@@ -30,7 +30,7 @@ pub fn choose<L>(
     level: Level,
     enabled: bool,
 ) -> Result<Plan, AllocError>
-    ensures { (c : Catalog) → StandsFor image.now.tables.scn image.now.tables.tables.items image.now.views c → IfOk result (λ plan. plan ≡ choice c query.now text.now level enabled) }
+    ensures { (c : Catalog) → StandsFor image.now.tables.scn image.now.tables.tables.items image.now.views c → IfOk result (λ plan. plan ≡ choice class_is_built c query.now text.now level enabled) }
 {
     plan_of_views(alloc, image, query, text, level, enabled)
 }
