@@ -78,9 +78,6 @@ pub(crate) fn field_value(
             None => Ok(None),
         },
         Kind::Text(_) => Ok(Some(Value::Text(field.copy(alloc)?))),
-        Kind::Date => match day_of(field.as_slice()) {
-            Some(day) => Ok(Some(Value::Day(day))),
-            None => Ok(None),
-        },
+        Kind::Date => Ok(day_of(field.as_slice()).map(Value::Day)),
     }
 }

@@ -19,12 +19,12 @@ use Rattle.def_history.specs.Staleness.{content, point_of, stale_intervals, view
 use Rattle.def_meaning.specs.Ranges.{misses}
 use Rattle.def_restrictions.specs.Definition.{selects_key, table_defs, tracked_key}
 use Rattle.def_rewriting.specs.Compatible.{failing}
-use Rattle.def_rewriting.specs.Matching.{FullText, NoText, PartialText, TextMatch, match_text, read_tokens}
+use Rattle.def_rewriting.specs.Matching.{FullText, NoText, PartialText, TextMatch, match_text}
 use Rattle.def_rewriting.specs.Reaching.{reach}
 use Rattle.wh_image.specs.Standing.{StandsFor}
 use Rattle.wh_base.specs.declared.tokens.Token.{Token}
 use Rattle.wh_rewrite.proofs.Fresh.{IsOverTables, IsWhole, state_is}
-use Rattle.wh_rewrite.specs.Served.{is_fresh, is_full, is_full_match, is_full_text, is_still, seen_state, serves, state_since}
+use Rattle.wh_rewrite.specs.Served.{is_fresh, is_full_match, is_full_text, is_still, seen_state, serves, state_since}
 use Rattle.wh_table.specs.Stored.{Stored}
 use Rattle.wh_view.specs.Kept.{AllKept, Kept}
 
@@ -42,9 +42,9 @@ class_by defs q v FullText = Some Full
 class_by defs q v PartialText = where_true (partial_holds defs q v.def.query) Partial
 class_by defs q v NoText = None
 
--- a view over tables may be matched by the text of its definition
-text_is : (v : View) → IsOverTables v → own_text v ≡ read_tokens v.def.text
-text_is v over = ap (λ o. cond (is_some o) None (read_tokens v.def.text)) over
+-- a view over tables may be matched by the text of its query
+text_is : (v : View) → IsOverTables v → own_text v ≡ Some v.def.tokens
+text_is v over = ap (λ o. cond (is_some o) None (Some v.def.tokens)) over
 
 -- without a text match no class is built
 general : (failed : Option ℕ) (back : List Back) (v : View) (size : ℕ) → candidate_of (standing_unless failed (general_class back) back) v size ≡ None
@@ -77,11 +77,6 @@ by_match defs q v FullText failed back (Some n) size = refl
 by_match defs q v PartialText failed back time size = by_partial (partial_holds defs q v.def.query) failed back time v size ∙ sym (no_match (is_none time) v size)
 by_match defs q v NoText failed back time size = general failed back v size ∙ sym (no_match (is_none time) v size)
 
-by_text : (defs : List TableDef) (q : StarQuery) (text : List Token) (v : View) (given : Option (List Token)) (failed : Option ℕ) (back : List Back) (time : Option ℕ) (size : ℕ)
-    → candidate_of (standing_by (option_and_then (λ ts. class_by defs q v (match_text text ts)) given) failed back time) v size ≡ where_true (is_none time && option_case given false (is_full text)) (full v size)
-by_text defs q text v None failed back time size = general failed back v size ∙ sym (no_match (is_none time) v size)
-by_text defs q text v (Some ts) failed back time size = by_match defs q v (match_text text ts) failed back time size
-
 -- ---- the time
 
 time_is : (fresh enabled : Bool) → is_none (first_some (failing 8 fresh ∷ failing 9 enabled ∷ [])) ≡ (enabled && fresh)
@@ -112,21 +107,21 @@ module _ (scn : ℕ) (tables : List Stored) (views : AllKept) (c : Catalog) (sta
       ∙ ap (λ b. not (asks_freshness level) || b) (enough_seen c q v (is_none v.point) (list_all (is_still tables (point_of v)) (table_defs v.def)))
 
   candidate_by : (v : View) → IsOverTables v
-      → candidate class_is_built c q text level enabled v ≡ where_true (is_none (time_failure c q level enabled [] v) && is_full_text text v.def.text) (full v (length (content c v)))
+      → candidate class_is_built c q text level enabled v ≡ where_true (is_none (time_failure c q level enabled [] v) && is_full_text text v.def.tokens) (full v (length (content c v)))
   candidate_by v over =
       let w : Reach = reach (defs_now c) c.dimensions level q v.def.query in
       let failed : Option ℕ = first_some (form_failure c q level v w ∷ time_failure c q level enabled w.back v ∷ []) in
       let time : Option ℕ = time_failure c q level enabled [] v in
       not_in_part (concat_holds c q level enabled v) (standing c q text level enabled v) v (length (content c v))
       ∙ ap (λ given. candidate_of (standing_by (option_and_then (λ ts. class_by (defs_now c) q v (match_text text ts)) given) failed w.back time) v (length (content c v))) (text_is v over)
-      ∙ by_text (defs_now c) q text v (read_tokens v.def.text) failed w.back time (length (content c v))
+      ∙ by_match (defs_now c) q v (match_text text v.def.tokens) failed w.back time (length (content c v))
 
   -- a view that is kept is a candidate exactly where it serves
   pub candidate_is : (k : Kept) → k.entries ≡ content c k.view → IsWhole k.view → IsOverTables k.view
       → candidate class_is_built c q text level enabled k.view ≡ where_true (serves tables q text level enabled k) (full k.view (length k.entries))
   candidate_is k same whole over =
       candidate_by k.view over
-      ∙ ap (λ b. where_true (b && is_full_text text k.view.def.text) (full k.view (length (content c k.view)))) (time_is (holds_e8 c q level [] k.view) (holds_e9 q enabled k.view))
-      ∙ ap (λ b. where_true ((holds_e9 q enabled k.view && b) && is_full_text text k.view.def.text) (full k.view (length (content c k.view)))) (e8_is k.view whole)
-      ∙ ap (λ b. where_true b (full k.view (length (content c k.view)))) (and_assoc (holds_e9 q enabled k.view) (not (asks_freshness level) || is_fresh (seen_state tables k.view)) (is_full_text text k.view.def.text))
+      ∙ ap (λ b. where_true (b && is_full_text text k.view.def.tokens) (full k.view (length (content c k.view)))) (time_is (holds_e8 c q level [] k.view) (holds_e9 q enabled k.view))
+      ∙ ap (λ b. where_true ((holds_e9 q enabled k.view && b) && is_full_text text k.view.def.tokens) (full k.view (length (content c k.view)))) (e8_is k.view whole)
+      ∙ ap (λ b. where_true b (full k.view (length (content c k.view)))) (and_assoc (holds_e9 q enabled k.view) (not (asks_freshness level) || is_fresh (seen_state tables k.view)) (is_full_text text k.view.def.tokens))
       ∙ ap (λ es. where_true (serves tables q text level enabled k) (full k.view (length es))) (sym same)

@@ -1,5 +1,5 @@
 -- The best of the views that an image keeps is the choice of its catalog.
-use Rattle.std.proofs.Common.{◌≡◌, ◌∙◌, sym, ap, refl, cond, true, false, Bool, ℕ, List, [], ◌∷◌, Option, None, Some, Result, Ok, Err, IfOk, Less, Equal, Greater, length, map, nat_lt, filter_map, option_map, ◌==◌}
+use Rattle.std.proofs.Common.{◌≡◌, ◌∙◌, sym, ap, refl, subst, cond, true, false, Bool, ℕ, List, [], ◌∷◌, Option, None, Some, Result, Ok, Err, IfOk, Less, Equal, Greater, length, map, nat_lt, filter_map, option_map, ◌==◌}
 use Rattle.std.specs.List.{All, cons_option}
 use Rattle.std.specs.Ordering.{is_lt}
 use Rattle.std.proofs.lemmas.List.Elements.{All-head, All-tail}
@@ -16,7 +16,7 @@ use Rattle.wh_image.specs.Standing.{StandsFor}
 use Rattle.wh_base.specs.declared.tokens.Token.{Token}
 use Rattle.wh_rewrite.proofs.Candidates.{candidate_is}
 use Rattle.wh_rewrite.proofs.Fresh.{IsOverTables, IsWhole, all_over_tables, all_whole}
-use Rattle.wh_rewrite.specs.Served.{best_from, lesser, plan_by, serves}
+use Rattle.wh_rewrite.specs.Served.{IsFullPlan, best_from, lesser, plan_by, serves}
 use Rattle.wh_table.specs.Stored.{Stored}
 use Rattle.wh_view.specs.Kept.{AllKept, Kept}
 
@@ -95,6 +95,15 @@ module _ (scn : ℕ) (tables : List Stored) (views : AllKept) (c : Catalog) (sta
 ok_same : {E : Type 0} (r : Result Plan E) (p s : Plan) → p ≡ s → IfOk r (λ x. x ≡ p) → IfOk r (λ x. x ≡ s)
 ok_same (Ok x) p s e h = h ∙ e
 ok_same (Err f) p s e h = h
+
+-- a plan over a kept view is of its full text
+full_by : (o : Option Kept) → IsFullPlan (plan_by o)
+full_by None = tt
+full_by (Some k) = (refl, refl)
+
+pub is_full : {E : Type 0} (o : Option Kept) (r : Result Plan E) → IfOk r (λ x. x ≡ plan_by o) → IfOk r IsFullPlan
+is_full o (Ok x) h = subst IsFullPlan (sym h) (full_by o)
+is_full o (Err f) h = h
 
 pub chosen : {E : Type 0} (scn : ℕ) (tables : List Stored) (views : AllKept) (q : StarQuery) (text : List Token) (level : Level) (enabled : Bool) (r : Result Plan E)
     → IfOk r (λ x. x ≡ plan_by (best_from (serves tables q text level enabled) None views.views))
