@@ -9,6 +9,8 @@ use Rattle.wh_base.specs.declared.views.Back.{Back}
 use Rattle.wh_base.specs.declared.views.Class.{Class}
 use Rattle.wh_base.specs.declared.views.Class.TheVariants.{Full, Partial}
 use Rattle.wh_base.specs.declared.views.Reach.{Reach}
+use Rattle.wh_base.specs.declared.views.Requirement.{Requirement}
+use Rattle.wh_base.specs.declared.views.Requirement.TheVariants as requirement
 use Rattle.wh_base.specs.declared.views.ViewState.{ViewState}
 use Rattle.wh_base.specs.declared.views.ViewState.TheVariants.{Fresh, Partly, Stale, Unbuilt}
 use Rattle.def_choice.specs.Choice.{Candidate, candidate, class_is_built}
@@ -47,39 +49,39 @@ text_is : (v : View) → IsOverTables v → own_text v ≡ Some v.def.tokens
 text_is v over = ap (λ o. cond (is_some o) None (Some v.def.tokens)) over
 
 -- without a text match no class is built
-general : (failed : Option ℕ) (back : List Back) (v : View) (size : ℕ) → candidate_of (standing_unless failed (general_class back) back) v size ≡ None
-general (Some n) back v size = refl
+general : (failed : Option Requirement) (back : List Back) (v : View) (size : ℕ) → candidate_of (standing_unless failed (general_class back) back) v size ≡ None
+general (Some e) back v size = refl
 general None [] v size = refl
 general None (b ∷ bs) v size = refl
 
 -- nor is the class for fresh keys alone
 not_in_part : (may : Bool) (s : Standing) (v : View) (size : ℕ) → candidate_of (or_concat may s) v size ≡ candidate_of s v size
 not_in_part may (Eligible class back) v size = refl
-not_in_part true (Failing n) v size = refl
-not_in_part false (Failing n) v size = refl
+not_in_part true (Failing e) v size = refl
+not_in_part false (Failing e) v size = refl
 
 -- what fails by the time
-abbrev standing_by : Option Class → Option ℕ → List Back → Option ℕ → Standing
+abbrev standing_by : Option Class → Option Requirement → List Back → Option Requirement → Standing
 standing_by class failed back time = option_case class (standing_unless failed (general_class back) back) (λ k. standing_unless time k [])
 
 no_match : (b : Bool) (v : View) (size : ℕ) → where_true (b && false) (full v size) ≡ None
 no_match true v size = refl
 no_match false v size = refl
 
-by_partial : (b : Bool) (failed : Option ℕ) (back : List Back) (time : Option ℕ) (v : View) (size : ℕ) → candidate_of (standing_by (where_true b Partial) failed back time) v size ≡ None
+by_partial : (b : Bool) (failed : Option Requirement) (back : List Back) (time : Option Requirement) (v : View) (size : ℕ) → candidate_of (standing_by (where_true b Partial) failed back time) v size ≡ None
 by_partial true failed back None v size = refl
-by_partial true failed back (Some n) v size = refl
+by_partial true failed back (Some e) v size = refl
 by_partial false failed back time v size = general failed back v size
 
-by_match : (defs : List TableDef) (q : StarQuery) (v : View) (m : TextMatch) (failed : Option ℕ) (back : List Back) (time : Option ℕ) (size : ℕ) → candidate_of (standing_by (class_by defs q v m) failed back time) v size ≡ where_true (is_none time && is_full_match m) (full v size)
+by_match : (defs : List TableDef) (q : StarQuery) (v : View) (m : TextMatch) (failed : Option Requirement) (back : List Back) (time : Option Requirement) (size : ℕ) → candidate_of (standing_by (class_by defs q v m) failed back time) v size ≡ where_true (is_none time && is_full_match m) (full v size)
 by_match defs q v FullText failed back None size = refl
-by_match defs q v FullText failed back (Some n) size = refl
+by_match defs q v FullText failed back (Some e) size = refl
 by_match defs q v PartialText failed back time size = by_partial (partial_holds defs q v.def.query) failed back time v size ∙ sym (no_match (is_none time) v size)
 by_match defs q v NoText failed back time size = general failed back v size ∙ sym (no_match (is_none time) v size)
 
 -- ---- the time
 
-time_is : (fresh enabled : Bool) → is_none (first_some (failing 8 fresh ∷ failing 9 enabled ∷ [])) ≡ (enabled && fresh)
+time_is : (fresh enabled : Bool) → is_none (first_some (failing requirement.E8 fresh ∷ failing requirement.E9 enabled ∷ [])) ≡ (enabled && fresh)
 time_is true true = refl
 time_is true false = refl
 time_is false true = refl
@@ -110,8 +112,8 @@ module _ (scn : ℕ) (tables : List Stored) (views : AllKept) (c : Catalog) (sta
       → candidate class_is_built c q text level enabled v ≡ where_true (is_none (time_failure c q level enabled [] v) && is_full_text text v.def.tokens) (full v (length (content c v)))
   candidate_by v over =
       let w : Reach = reach (defs_now c) c.dimensions level q v.def.query in
-      let failed : Option ℕ = first_some (form_failure c q level v w ∷ time_failure c q level enabled w.back v ∷ []) in
-      let time : Option ℕ = time_failure c q level enabled [] v in
+      let failed : Option Requirement = first_some (form_failure c q level v w ∷ time_failure c q level enabled w.back v ∷ []) in
+      let time : Option Requirement = time_failure c q level enabled [] v in
       not_in_part (concat_holds c q level enabled v) (standing c q text level enabled v) v (length (content c v))
       ∙ ap (λ given. candidate_of (standing_by (option_and_then (λ ts. class_by (defs_now c) q v (match_text text ts)) given) failed w.back time) v (length (content c v))) (text_is v over)
       ∙ by_match (defs_now c) q v (match_text text v.def.tokens) failed w.back time (length (content c v))
