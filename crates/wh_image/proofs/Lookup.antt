@@ -44,9 +44,9 @@ taken scn tables views c name h =
 
 over : (scn : ℕ) (tables : List Stored) (views : AllKept) (c : Catalog) (n : ℕ) → StandsFor scn tables views c → views_over c n ≡ []
 over scn tables views c n h =
-    filter_none (λ v. option_nat_is v.def.beneath n) c.views
-    (each_weaker (λ (v : View). v.def.beneath ≡ None) (λ v. option_nat_is v.def.beneath n ≡ false) (λ v none. ap (λ o. option_nat_is o n) none) c.views
-    (each_from (λ v. v.def.beneath ≡ None) c.views h.over_tables))
+    filter_none (λ (v : View). option_nat_is v.def.beneath n) c.views
+    (each_weaker (λ (v : View). v.def.beneath ≡ None) (λ (v : View). option_nat_is v.def.beneath n ≡ false) (λ v none. ap (λ o. option_nat_is o n) none) c.views
+    (each_from (λ (v : View). v.def.beneath ≡ None) c.views h.over_tables))
 
 pub lookups : Lookups
 lookups = record { definitions = definitions; named = named; numbered = numbered; names = names; taken = taken; over = over }
