@@ -1,3 +1,4 @@
 pub mod Commas
+pub mod Halves
 pub mod PlainNames
 pub mod TextNames

@@ -2,10 +2,12 @@ ghost use Rattle.def_grammar.specs.Forms.{all_words, alter_table, merge_parts, r
 ghost use Rattle.def_grammar.specs.Reading.{◌>>◌, mapped, name, word};
 ghost use Rattle.std.specs.Prelude.{[], ◌∷◌, codes};
 ghost use Rattle.wh_base.specs.declared.statements.PartChange.TheVariants.{Add, DropPart, Merge, Movement, Split, Truncate};
+ghost use Rattle.wh_ddl_text.specs.Pieces.{halves};
 
 use crate::tables::Range;
 use crate::words::{one_of_both, take_words};
 use wh_base::statements::{Altered, MergeParts, PartChange, SplitPart, Statement, TableStatement};
+use wh_base::txt::Txt;
 use wh_query_text::parser::{ParseFault, Parser};
 use wh_query_text::rule::{Bracketed, Either, Rule};
 use wh_query_text::rules::AnyLiteral;
@@ -55,6 +57,26 @@ impl Rule for TruncateChange {
     }
 }
 
+/// The names of the two parts of a partition, between parentheses.
+pub struct Halves;
+
+impl Rule for Halves {
+    type Output = (Txt, Txt);
+
+    ghost reads = { halves };
+
+    fn read(parser: &mut Parser<'_>) -> Result<(Txt, Txt), ParseFault> {
+        parser.mark(b"(")?;
+        parser.word(b"PARTITION")?;
+        let lower = parser.name()?;
+        parser.mark(b",")?;
+        parser.word(b"PARTITION")?;
+        let upper = parser.name()?;
+        parser.mark(b")")?;
+        Ok((lower, upper))
+    }
+}
+
 /// A partition, the bound at which it is cut, and the names of its two parts.
 pub struct SplitRule;
 
@@ -63,19 +85,14 @@ impl Rule for SplitRule {
 
     ghost reads = { split_part };
 
+    #[tactic(auto, using(crate::proofs::Halves::splits))]
     fn read(parser: &mut Parser<'_>) -> Result<SplitPart, ParseFault> {
         take_words(parser, ["SPLIT", "PARTITION"].as_slice())?;
         let name = parser.name()?;
         parser.word(b"AT")?;
         let at = Bracketed::<AnyLiteral>::read(parser)?;
         parser.word(b"INTO")?;
-        parser.mark(b"(")?;
-        parser.word(b"PARTITION")?;
-        let lower = parser.name()?;
-        parser.mark(b",")?;
-        parser.word(b"PARTITION")?;
-        let upper = parser.name()?;
-        parser.mark(b")")?;
+        let (lower, upper) = Halves::read(parser)?;
         Ok(SplitPart {
             name,
             at,
