@@ -1,4 +1,4 @@
 pub mod Commas
-pub mod Halves
 pub mod PlainNames
+pub mod Splits
 pub mod TextNames

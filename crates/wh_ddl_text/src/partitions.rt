@@ -85,7 +85,7 @@ impl Rule for SplitRule {
 
     ghost reads = { split_part };
 
-    #[tactic(auto, using(crate::proofs::Halves::splits))]
+    #[tactic(auto, using(crate::proofs::Splits::splits))]
     fn read(parser: &mut Parser<'_>) -> Result<SplitPart, ParseFault> {
         take_words(parser, ["SPLIT", "PARTITION"].as_slice())?;
         let name = parser.name()?;
