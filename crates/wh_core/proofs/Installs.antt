@@ -57,7 +57,7 @@ number_found n v (w ∷ vs) found = by (w.def.view == n) refl found (number_foun
     by false is same rest = rest same
 
 -- what holds of all views holds of the one that is found
-found_each : (P : View → Type 0) (p : View → Bool) (vs : List View) (v : View) → All P vs → find p vs ≡ Some v → P v
+pub found_each : (P : View → Type 0) (p : View → Bool) (vs : List View) (v : View) → All P vs → find p vs ≡ Some v → P v
 found_each P p [] v h found = absurd (cc)
 found_each P p (w ∷ vs) v h found = by (p w) found (found_each P p vs v (All-tail P w vs h))
   where
