@@ -1,42 +1,29 @@
 -- The laws together.
 use Rattle.std.proofs.Common.{◌≡◌, ◌∙◌, sym, ap, true, List, [], ◌∷◌, ◌++◌, map, flat_map}
-use Rattle.std.specs.List.{All, AllByRecursion}
-use Rattle.std.proofs.lemmas.Bool.{eqb-true}
-use Rattle.std.proofs.lemmas.List.Elements.{All-from_recursion}
 use Rattle.std.proofs.lemmas.List.Folds.{flat_map-map}
 use Rattle.wh_base.specs.declared.statements.Entry.{Entry}
 use Rattle.wh_base.specs.declared.statements.Script.{Script}
 use Rattle.wh_base.specs.declared.values.Version.{Version}
-use Rattle.def_journal.specs.Jobs.{accepted_submits, is_own}
-use Rattle.def_journal.specs.Journal.{Told, is_legal, replies_of, trace_of}
+use Rattle.def_journal.specs.Jobs.{accepted_submits}
+use Rattle.def_journal.specs.Journal.{Told, is_legal}
 use Rattle.def_transcript.specs.Texts.{first_lines, journal_line, lines_text}
 use Rattle.def_transcript.specs.Transcript.{transcript}
 use Rattle.wh_order.specs.Laws.{Laws, session_told, told_text}
 use Rattle.wh_order.proofs.Journals.{all_own, each_own, next_part, own_parts}
-use Rattle.wh_order.proofs.Listed.{each_from_all, each_weaker}
 use Rattle.wh_order.proofs.Ordered.{legal}
 use Rattle.wh_order.proofs.Summed.{count_by_sections, sum_by_sections}
-use Rattle.wh_order.proofs.Told.{answers_hold, by_sections, journal_answered, told_in_of, told_of}
+use Rattle.wh_order.proofs.Told.{by_sections, told_in_of, told_of}
 
 by_lists : (version : Version) (script : Script) (journal : List Entry) (told : List (List Told)) → accepted_submits script ≡ [] → is_legal script journal ≡ true → told ≡ map (session_told script journal) script.sections → transcript version script journal ≡ lines_text (first_lines version) ++ (flat_map (told_text version) told ++ lines_text (journal_line journal ∷ []))
 by_lists version script journal told none legal is =
     by_sections version script journal (each_own script journal none legal)
     ∙ ap (λ text. lines_text (first_lines version) ++ (text ++ lines_text (journal_line journal ∷ []))) (sym (ap (flat_map (told_text version)) is ∙ flat_map-map (told_text version) (session_told script journal) script.sections))
 
-told_alone : (script : Script) (journal : List Entry) → accepted_submits script ≡ [] → is_legal script journal ≡ true → All (λ t. t.id.worker ≡ 0) (replies_of (trace_of script journal))
-told_alone script journal none legal =
-    let told : List Told = replies_of (trace_of script journal) in
-    let alone : AllByRecursion (λ e. is_own e ≡ true) journal = each_from_all is_own journal (all_own script journal none legal) in
-    All-from_recursion (λ t. t.id.worker ≡ 0) told
-    (answers_hold (λ i. i.worker ≡ 0) journal told (journal_answered script journal)
-    (each_weaker (λ e. is_own e ≡ true) (λ e. e.worker ≡ 0) (λ e h. eqb-true e.worker 0 h) journal alone))
-
 pub laws_hold : Laws
 laws_hold = record {
   legal = legal;
   own_parts = own_parts;
   all_own = all_own;
-  told_alone = told_alone;
   next_part = next_part;
   told_of = told_of;
   told_in_of = told_in_of;

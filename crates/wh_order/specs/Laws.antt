@@ -58,8 +58,6 @@ pub record Laws : Type 0 where
   pub own_parts : (script : Script) (journal : List Entry) → is_legal script journal ≡ true → All (λ s. own_entries s.session journal ≡ section_entries s) script.sections
   -- without jobs there are no others
   pub all_own : (script : Script) (journal : List Entry) → accepted_submits script ≡ [] → is_legal script journal ≡ true → list_all is_own journal ≡ true
-  -- and no reply is one of a job
-  pub told_alone : (script : Script) (journal : List Entry) → accepted_submits script ≡ [] → is_legal script journal ≡ true → All (λ t. t.id.worker ≡ 0) (replies_of (trace_of script journal))
   -- and each entry is the next part of its session
   pub next_part : (script : Script) (front rest : List Entry) (e : Entry) → accepted_submits script ≡ [] → is_legal script (front ++ e ∷ rest) ≡ true → IsNext script front e
   -- an event adds its reply, where it gives one

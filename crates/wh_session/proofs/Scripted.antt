@@ -1,64 +1,23 @@
--- What is so of a script of forms that are built: it has no jobs, and no session of it creates a view over a view.
+-- No session of a script of forms that are built creates a view over a view.
 use Rattle.std.proofs.Common.{◌≡◌, ◌∙◌, sym, refl, ℕ, suc, zero, ◌-◌, ◌==◌, ◌&&◌, ◌||◌, Bool, true, false, true≢false, cond, not, List, [], ◌∷◌, ◌++◌, flat_map, find, slice_get, Option, Some}
-use Rattle.std.proofs.lemmas.Bool.{and_from, or_left, or_parts, or_right}
+use Rattle.std.proofs.lemmas.Bool.{or_left, or_parts, or_right}
 use Rattle.std.proofs.lemmas.List.Concat.{flat_map-append}
 use Rattle.std.proofs.lemmas.List.Elements.{All-from_recursion}
 use Rattle.std.proofs.lemmas.List.Folds.{list_any-append}
-use Rattle.std.specs.List.{All, AllByRecursion, list_all, list_any}
+use Rattle.std.specs.List.{All, AllByRecursion, list_any}
 use Rattle.std.specs.Prelude.{unwrap_or}
 use Rattle.wh_base.specs.Lists.{has_text, option_case, same_text}
 use Rattle.wh_base.specs.declared.statements.Command.{Command}
-use Rattle.wh_base.specs.declared.statements.Command.TheVariants as commands
 use Rattle.wh_base.specs.declared.statements.Entry.{Entry}
 use Rattle.wh_base.specs.declared.statements.Script.{Script}
 use Rattle.wh_base.specs.declared.statements.Section.{Section}
-use Rattle.def_built.specs.Commands.{command_is_built, commands_are_built}
-use Rattle.def_built.specs.Form.{created_by, created_over, nests, script_is_built, section_is_built, sections_are_built, views_are_built}
+use Rattle.def_built.specs.Form.{created_by, created_over, nests, script_is_built, sections_are_built, views_are_built}
 use Rattle.def_built.specs.Forms.{is_built}
 use Rattle.def_built.specs.declared.forms.Form.TheVariants as forms
-use Rattle.def_journal.specs.Jobs.{accepted_submits}
 use Rattle.def_journal.specs.Journal.{command_of, commands_of, no_command, trace_of}
-use Rattle.def_journal.proofs.NoJobs.{accepts_nothing, submit_nothing}
 use Rattle.wh_core.specs.Calls.{IsOverTables, names_created}
 use Rattle.wh_session.proofs.Replying.{and_left, and_right, neither}
 use Rattle.wh_session.specs.Run.{AreOverTables}
-
--- ---- its sections
-
-each_built : (ss : List Section) → list_all section_is_built ss ≡ true → list_all (λ s. commands_are_built s.commands) ss ≡ true
-each_built [] h = refl
-each_built (s ∷ ss) h =
-    and_from (commands_are_built s.commands) (list_all (λ t. commands_are_built t.commands) ss)
-    (and_right ((s.session == 0) || is_built forms.Session) (commands_are_built s.commands) (and_left (section_is_built s) _ h))
-    (each_built ss (and_right (section_is_built s) _ h))
-
-all_built : (ss : List Section) → sections_are_built ss ≡ true → list_all (λ s. commands_are_built s.commands) ss ≡ true
-all_built [] h = refl
-all_built (s ∷ []) h = each_built (s ∷ []) (and_from (section_is_built s) true h refl)
-all_built (s ∷ t ∷ more) h = each_built (s ∷ t ∷ more) (and_right (is_built forms.Session) (list_all section_is_built (s ∷ t ∷ more)) h)
-
-sections_built : (script : Script) → script_is_built script ≡ true → (sections_are_built script.sections ≡ true) × (views_are_built script.sections ≡ true)
-sections_built script built =
-    let both = and_left (sections_are_built script.sections && views_are_built script.sections) _ built in
-    (and_left (sections_are_built script.sections) (views_are_built script.sections) both, and_right (sections_are_built script.sections) (views_are_built script.sections) both)
-
--- ---- jobs
-
-submits_nothing : (cs : List Command) → commands_are_built cs ≡ true → submit_nothing cs ≡ true
-submits_nothing [] h = refl
-submits_nothing (commands.Block b ∷ cs) h = submits_nothing cs (and_right (command_is_built (commands.Block b)) _ h)
-submits_nothing (commands.Other s ∷ cs) h = submits_nothing cs (and_right (command_is_built (commands.Other s)) _ h)
-submits_nothing (commands.Submit s ∷ cs) h = absurd (true≢false (sym h))
-
-no_submits : (ss : List Section) → list_all (λ s. commands_are_built s.commands) ss ≡ true → list_all (λ s. submit_nothing s.commands) ss ≡ true
-no_submits [] h = refl
-no_submits (s ∷ ss) h =
-    and_from (submit_nothing s.commands) (list_all (λ t. submit_nothing t.commands) ss) (submits_nothing s.commands (and_left (commands_are_built s.commands) _ h))
-    (no_submits ss (and_right (commands_are_built s.commands) _ h))
-
--- no SUBMIT of it is accepted
-pub no_jobs : (script : Script) → script_is_built script ≡ true → accepted_submits script ≡ []
-no_jobs script built = accepts_nothing script (no_submits script.sections (all_built script.sections (sections_built script built).0))
 
 -- ---- the names of the views that are created
 
@@ -139,7 +98,9 @@ module _ (script : Script) (front : List Entry) where
 
   -- no session creates a view over one that was created in its trace
   pub over_tables : script_is_built script ≡ true → All (AreOverTables (trace_of script front)) script.sections
-  over_tables built = All-from_recursion (AreOverTables (trace_of script front)) script.sections (each_section script.sections (by (nests script.sections) (sections_built script built).1))
+  over_tables built =
+      let views : views_are_built script.sections ≡ true = and_right (sections_are_built script.sections) _ (and_left (sections_are_built script.sections && views_are_built script.sections) _ built) in
+      All-from_recursion (AreOverTables (trace_of script front)) script.sections (each_section script.sections (by (nests script.sections) views))
     where
       by : (b : Bool) → (not b || is_built forms.Nested) ≡ true → b ≡ false
       by true h = sym h
