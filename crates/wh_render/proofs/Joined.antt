@@ -1,5 +1,5 @@
 -- A line of words is its first word and the others behind spaces.
-use Rattle.std.specs.Prelude.{List, None, Option, Some, [], codes, decimal, drop, filter, map, not, ℕ, ◌++◌, ◌∷◌}
+use Rattle.std.specs.Prelude.{Bool, List, None, Option, Some, [], codes, cond, decimal, drop, false, filter, map, not, true, ℕ, ◌++◌, ◌==◌, ◌∷◌}
 use Rattle.std.proofs.Common.{◌≡◌, ◌≢◌, ap, arith, length, refl, take}
 use Rattle.std.proofs.lemmas.Grind.{common_steps}
 use Rattle.wh_base.specs.Lists.{is_empty}
@@ -54,8 +54,16 @@ at_words-refusal at r = rw (code-first r) (placed at (first_word (refusal_words 
 
 pub ruleset refusals = (at_words-refusal)
 
+-- the first word of a header, where a session does the command itself or not
+abbrev named : Bool → Id → List ℕ
+named own id = cond own (decimal id.session ++ (46 ∷ decimal id.command)) (codes "JOB " ++ decimal id.worker)
+
+words-named : (own : Bool) (id : Id) (ws : List (List ℕ)) → words (named own id ∷ ws) ≡ named own id ++ more_words ws
+words-named true id ws = words-middle (decimal id.session) 46 (decimal id.command) ws
+words-named false id ws = words-cons 74 (codes "OB " ++ decimal id.worker) ws
+
 pub words-id : (id : Id) (ws : List (List ℕ)) → words (id_text id ∷ ws) ≡ id_text id ++ more_words ws
-words-id id ws = words-middle (decimal id.session) 46 (decimal id.command) ws
+words-id id ws = words-named (id.worker == 0) id ws
 
 pub journal-words : (entries : List Entry) → journal_line entries ≡ codes "journal" ++ more_words (map entry_text entries)
 journal-words entries = words-cons 106 (codes "ournal") (map entry_text entries)

@@ -30,6 +30,7 @@ pub fn class_text(class: Class) -> &'static str
         Class::Partial => "PARTIAL",
         Class::General => "GENERAL",
         Class::JoinBack => "JOINBACK",
+        Class::Concat => "CONCAT",
     }
 }
 

@@ -88,6 +88,8 @@ pub fn refusal_code(refusal: &Refusal) -> &'static str
         Refusal::NotAKey(_, _) => "MV-27",
         Refusal::StillUsed(_) => "MV-28",
         Refusal::OnlyReading => "MV-29",
+        Refusal::BeneathUnbuilt(_) => "MV-30",
+        Refusal::NotNested(_) => "MV-31",
     }
 }
 
@@ -124,7 +126,9 @@ pub fn push_details(out: &mut Vec<u8>, refusal: &Refusal) -> Result<(), AllocErr
         | Refusal::VersionsFull(name)
         | Refusal::NoLog(name)
         | Refusal::LogExists(name)
-        | Refusal::StillUsed(name) => push_name(out, name)?,
+        | Refusal::StillUsed(name)
+        | Refusal::BeneathUnbuilt(name)
+        | Refusal::NotNested(name) => push_name(out, name)?,
         Refusal::ValueDoesNotFit(table, column)
         | Refusal::NullNotAllowed(table, column)
         | Refusal::DuplicateKey(table, column)
