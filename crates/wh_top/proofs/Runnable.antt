@@ -1,10 +1,10 @@
 -- A script that is read can be run.
-use Rattle.std.proofs.Common.{◌≡◌, ap, subst, sym, arith, ℕ, suc, zero, ◌<◌, ◌≤◌, ◌==◌, ◌||◌, true, List, [], ◌∷◌, length, map, get_or}
+use Rattle.std.proofs.Common.{◌≡◌, ap, subst, sym, arith, ℕ, suc, zero, ◌<◌, ◌≤◌, ◌==◌, ◌||◌, ◌&&◌, true, List, [], ◌∷◌, length, map, get_or}
 use Rattle.std.specs.List.{All, AllByRecursion, AllPairs, list_all}
 use Rattle.std.proofs.lemmas.Bool.{and_parts}
 use Rattle.std.proofs.lemmas.List.Elements.{All-from_recursion}
 use Rattle.def_built.specs.Commands.{commands_are_built}
-use Rattle.def_built.specs.Form.{script_is_built, section_is_built, sections_are_built}
+use Rattle.def_built.specs.Form.{script_is_built, section_is_built, sections_are_built, views_are_built}
 use Rattle.def_built.specs.Forms.{is_built}
 use Rattle.def_built.specs.declared.forms.Form.TheVariants as forms
 use Rattle.wh_base.specs.Lists.{is_empty}
@@ -36,10 +36,16 @@ numbers_within [] k d within h = absurd (omega (arith, within))
 numbers_within (s ∷ ss) zero d within h = h 0 s (omega arith)
 numbers_within (s ∷ ss) (suc k) d within h = numbers_within ss k d (omega (arith, within)) (λ j t inside. h (suc j) t (omega (arith, inside)))
 
+-- what is built of a script: its sections, and beside them what isn't told by one section
+built_sections : (script : Script) → script_is_built script ≡ true → sections_are_built script.sections ≡ true
+built_sections script built =
+    let views = views_are_built script.sections in
+    let others = (is_empty script.order || is_built forms.Order) && ((script.workers == 0) || is_built forms.Workers) in
+    (and_parts (sections_are_built script.sections) views (and_parts (sections_are_built script.sections && views) others built).0).0
+
 can_run : (script : Script) → script_is_built script ≡ true → All (λ s. All IsRead s.commands) script.sections → All CanRun script.sections
 can_run script built read =
-    let parts = and_parts (sections_are_built script.sections) (is_empty script.order || is_built forms.Order) built in
-    let commands : All (λ s. commands_are_built s.commands ≡ true) script.sections = All-from_recursion (λ s. commands_are_built s.commands ≡ true) script.sections (all_built script.sections parts.0) in
+    let commands : All (λ s. commands_are_built s.commands ≡ true) script.sections = All-from_recursion (λ s. commands_are_built s.commands ≡ true) script.sections (all_built script.sections (built_sections script built)) in
     λ k d within. record { built = commands k d within; read = read k d within }
 
 pub runnable : (script : Script) → script_is_built script ≡ true → All (λ s. All IsRead s.commands) script.sections → AllPairs (λ s t. s.session < t.session) script.sections → All (λ s. s.session ≤ most_sessions) script.sections → IsRunnable script

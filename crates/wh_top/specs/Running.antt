@@ -6,6 +6,7 @@ use Rattle.wh_base.specs.declared.statements.Entry.{Entry}
 use Rattle.wh_base.specs.declared.statements.Script.{Script}
 use Rattle.wh_base.specs.declared.statements.Section.{Section}
 use Rattle.wh_base.specs.declared.statements.Event.{Event}
+use Rattle.wh_base.specs.declared.values.Version.{Version}
 use Rattle.def_built.specs.Form.{script_is_built}
 use Rattle.def_journal.specs.Journal.{of_session, order_of, replies_of, session_numbers, state_of, trace_of}
 use Rattle.def_output.specs.Reads.{reads_of}
@@ -25,21 +26,22 @@ pub record IsRunnable (script : Script) : Type 0 where
   pub differ : number_twice (session_numbers script) ≡ None
   pub within : All (λ n. n ≤ most_sessions) (session_numbers script)
 
--- The session has taken its parts in this front of a journal.
-pub record IsAsFar (script : Script) (front : List Entry) (s : Section) (r : Run) : Type 0 where
+-- The session has taken its parts in this front of a journal, and its text has their replies in this version.
+pub record IsAsFar (version : Version) (script : Script) (front : List Entry) (s : Section) (r : Run) : Type 0 where
+  pub version_is : r.version ≡ version
   pub section_is : r.section ≡ s
   pub left_is : r.left ≡ drop (length (of_session s.session front)) (section_entries s)
-  pub text_is : r.text ≡ told_text (session_told script front s)
+  pub text_is : r.text ≡ told_text version (session_told script front s)
   pub tally_is : r.tally ≡ tally_of (session_told script front s)
   pub goes_on : Continues r (trace_of script front)
   pub ended : r.left ≡ [] → r.ahead ≡ 0
 
 -- so it is with each session of the script
-abbrev pub AreAsFar : Script → List Entry → List Section → List Run → Type 0
-AreAsFar script front [] [] = Unit {0}
-AreAsFar script front [] (r ∷ rs) = ⊥
-AreAsFar script front (s ∷ ss) [] = ⊥
-AreAsFar script front (s ∷ ss) (r ∷ rs) = IsAsFar script front s r × AreAsFar script front ss rs
+abbrev pub AreAsFar : Version → Script → List Entry → List Section → List Run → Type 0
+AreAsFar version script front [] [] = Unit {0}
+AreAsFar version script front [] (r ∷ rs) = ⊥
+AreAsFar version script front (s ∷ ss) [] = ⊥
+AreAsFar version script front (s ∷ ss) (r ∷ rs) = IsAsFar version script front s r × AreAsFar version script front ss rs
 
 -- the base rows that a refresh of the session with this number has read, which no reply tells yet
 abbrev pub ahead_of : ℕ → List Run → ℕ
@@ -87,8 +89,8 @@ pub record IsTaken (n : ℕ) (runs runs_after : List Run) (trace trace_after : L
   pub reads_are : reads_after ≡ slice_set reads n count
   pub takes : Takes run after trace trace_after (slice_index reads n) count
 
--- The script has run whole in its own order, and its trace left this SCN.
-pub record HasRun (script : Script) (runs : List Run) (journal : List Entry) (scn : ℕ) : Type 0 where
+-- The script has run whole in its own order, its replies are told in this version, and its trace left this SCN.
+pub record HasRun (version : Version) (script : Script) (runs : List Run) (journal : List Entry) (scn : ℕ) : Type 0 where
   pub journal_is : journal ≡ order_of script
-  pub far : AreAsFar script (order_of script) script.sections runs
+  pub far : AreAsFar version script (order_of script) script.sections runs
   pub scn_is : scn ≡ (state_of (trace_of script (order_of script))).catalog.scn
