@@ -17,7 +17,7 @@ use Rattle.def_choice.specs.Concat.{concat_holds, or_concat}
 use Rattle.def_choice.specs.Eligible.{Standing, back_of, class_of, failed_of, standing}
 use Rattle.def_history.specs.Catalog.{Catalog, View, base_at, base_now, defs_now, view_numbered}
 use Rattle.def_history.specs.Staleness.{content, point_of, stale_intervals}
-use Rattle.wh_lex.specs.declared.token.Token.{Token}
+use Rattle.wh_base.specs.declared.tokens.Token.{Token}
 use Rattle.def_meaning.specs.Meaning.{in_order, meaning}
 use Rattle.def_meaning.specs.Ranges.{base_reads}
 use Rattle.def_restrictions.specs.Definition.{tracked_key}

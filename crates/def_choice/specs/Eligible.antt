@@ -19,11 +19,11 @@ use Rattle.wh_base.specs.declared.views.ViewState.{ViewState}
 use Rattle.wh_base.specs.declared.views.ViewState.TheVariants.{Fresh, Partly, Stale, Unbuilt}
 use Rattle.def_history.specs.Catalog.{Catalog, View, defs_now, is_nested}
 use Rattle.def_history.specs.Staleness.{stale_intervals, view_state}
-use Rattle.wh_lex.specs.declared.token.Token.{Token}
+use Rattle.wh_base.specs.declared.tokens.Token.{Token}
 use Rattle.def_meaning.specs.Ranges.{misses}
 use Rattle.def_restrictions.specs.Definition.{is_tracked, selects_column, selects_key, tracked_key}
 use Rattle.def_rewriting.specs.Compatible.{compatible, failing, linked}
-use Rattle.def_rewriting.specs.Matching.{FullText, NoText, PartialText, TextMatch, match_text, read_tokens}
+use Rattle.def_rewriting.specs.Matching.{FullText, NoText, PartialText, TextMatch, match_text}
 use Rattle.def_rewriting.specs.Reaching.{reach}
 use Rattle.def_rewriting.specs.Rollup.{computable, origin}
 use Rattle.wh_base.specs.declared.queries.Item.TheVariants as item
@@ -82,9 +82,9 @@ partial_holds defs q v =
 
 -- The text that a query may match: that of the definition. A view over a view has none, since its text isn't over the base tables.
 abbrev pub own_text : View → Option (List Token)
-own_text v = cond (is_nested v) None (read_tokens v.def.text)
+own_text v = cond (is_nested v) None (Some v.def.tokens)
 
--- The class of a text match: FULL, or PARTIAL where it holds. A definition whose text can't be read as tokens has none.
+-- The class of a text match: FULL, or PARTIAL where it holds.
 abbrev pub text_class : List TableDef → StarQuery → List Token → View → Option Class
 text_class defs q text v = option_and_then (λ given. of_match (match_text text given)) (own_text v)
   where

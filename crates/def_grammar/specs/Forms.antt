@@ -43,10 +43,10 @@ use Rattle.wh_base.specs.declared.statements.TableColumn.{TableColumn}
 use Rattle.wh_base.specs.declared.statements.TablePart.{TablePart}
 use Rattle.wh_base.specs.declared.values.Literal.{Literal}
 use Rattle.def_grammar.specs.Query.{literal, select, where_conditions}
-use Rattle.def_grammar.specs.Reading.{Rule, bracketed, gives, listed, many, mapped, mark, maybe, name, number, optional_list, quoted, spelled, whole, word, ◌>>=◌, ◌>>◌, ◌or◌}
+use Rattle.def_grammar.specs.Reading.{Rule, bracketed, gives, listed, many, mapped, mark, maybe, name, number, optional_list, quoted, whole, word, ◌>>=◌, ◌>>◌, ◌or◌}
 use Rattle.wh_lex.specs.Lex.{tokens_of}
 use Rattle.wh_lex.specs.declared.lex.LexFault.{LexFault}
-use Rattle.wh_lex.specs.declared.token.Token.{Token}
+use Rattle.wh_base.specs.declared.tokens.Token.{Token}
 use Rattle.def_resolve.specs.Names.{condition_names}
 use Rattle.wh_base.specs.declared.statements.TablePart.TheVariants as parts
 use Rattle.wh_base.specs.declared.statements.ColumnMark.TheVariants as marks
@@ -56,9 +56,9 @@ abbrev pub all_words : List (List ℕ) → Rule Bool
 all_words [] = gives true
 all_words (w ∷ ws) = word w >> all_words ws
 
--- a SELECT, with a text that reads as its tokens
+-- a SELECT, with its tokens
 abbrev pub asked : Rule Asked
-asked ts = option_map (λ p. (record { query = p.0; text = spelled (take (length ts - length p.1) ts) }, p.1)) (select ts)
+asked ts = option_map (λ p. (record { query = p.0; tokens = take (length ts - length p.1) ts }, p.1)) (select ts)
 
 -- ---- rows
 

@@ -1,10 +1,10 @@
 -- How rules of the grammar read tokens, and the pieces from which they are put together.
-use Rattle.std.specs.Prelude.{Bool, List, None, Option, Some, [], codes, cond, false, flat_map, length, not, option_map, suc, true, unwrap_or, zero, ℕ, ◌&&◌, ◌++◌, ◌==◌, ◌∷◌}
+use Rattle.std.specs.Prelude.{Bool, List, None, Option, Some, [], codes, cond, false, length, not, option_map, suc, true, unwrap_or, zero, ℕ, ◌&&◌, ◌++◌, ◌==◌, ◌∷◌}
 use Rattle.wh_base.specs.Lists.{has_text, is_empty, option_case, same_text, where_true}
 use Rattle.wh_base.specs.Values.{digits_number}
-use Rattle.wh_lex.specs.declared.token.Token.{Token}
-use Rattle.wh_lex.specs.declared.token.TokenKind.{TokenKind}
-use Rattle.wh_lex.specs.declared.token.TokenKind.TheVariants as tokens
+use Rattle.wh_base.specs.declared.tokens.Token.{Token}
+use Rattle.wh_base.specs.declared.tokens.TokenKind.{TokenKind}
+use Rattle.wh_base.specs.declared.tokens.TokenKind.TheVariants as tokens
 
 -- a rule reads from the front of the tokens: it gives what stands there and the tokens after it, or None where nothing does
 abbrev pub Rule : Type 0 → Type 0
@@ -123,16 +123,8 @@ optional_list r = mapped (λ o. unwrap_or o []) (maybe r)
 abbrev pub whole : {A : Type 0} → Rule A → List Token → Option A
 whole r ts = option_case (r ts) None (λ p. where_true (is_empty p.1) p.0)
 
--- ---- a text for tokens
+-- ---- quotes
 
 -- a quote stands twice within a text
 abbrev pub doubled : ℕ → List ℕ
 doubled b = cond (b == 39) (39 ∷ 39 ∷ []) (b ∷ [])
-
--- a token as it is written, with a space behind it
-abbrev pub spelled_token : Token → List ℕ
-spelled_token t = cond (same_token_kind t.kind tokens.Text) (39 ∷ flat_map doubled t.text ++ 39 ∷ 32 ∷ []) (t.text ++ 32 ∷ [])
-
--- a text whose tokens are these
-abbrev pub spelled : List Token → List ℕ
-spelled ts = flat_map spelled_token ts

@@ -24,9 +24,9 @@ use Rattle.def_grammar.specs.Lines.{Directive, DirectiveAt, EndAt, EndLoad, EndS
 use Rattle.def_grammar.specs.Reading.{is_token, whole, word}
 use Rattle.wh_lex.specs.Lex.{tokens_from}
 use Rattle.wh_lex.specs.declared.lex.LexFault.{LexFault}
-use Rattle.wh_lex.specs.declared.token.Token.{Token}
+use Rattle.wh_base.specs.declared.tokens.Token.{Token}
 use Rattle.wh_base.specs.Lists.{◌>>=◌}  --
-use Rattle.wh_lex.specs.declared.token.TokenKind.TheVariants as kinds
+use Rattle.wh_base.specs.declared.tokens.TokenKind.TheVariants as kinds
 use Rattle.wh_lex.specs.declared.lex.LexFault.TheVariants as faults
 use Rattle.wh_base.specs.declared.statements.Command.TheVariants as commands
 use Rattle.csv.specs.declared.parser.State.TheVariants as state

@@ -26,9 +26,9 @@ use Rattle.wh_base.specs.declared.queries.RawWhat.TheVariants as what
 use Rattle.wh_base.specs.declared.values.Literal.{Literal}
 use Rattle.wh_base.specs.declared.values.Literal.TheVariants.{Dated, Number, Quoted}
 use Rattle.wh_lex.specs.Tokens.{is_name_byte}
-use Rattle.wh_lex.specs.declared.token.Token.{Token}
-use Rattle.wh_lex.specs.declared.token.TokenKind.{TokenKind}
-use Rattle.wh_lex.specs.declared.token.TokenKind.TheVariants as tokens
+use Rattle.wh_base.specs.declared.tokens.Token.{Token}
+use Rattle.wh_base.specs.declared.tokens.TokenKind.{TokenKind}
+use Rattle.wh_base.specs.declared.tokens.TokenKind.TheVariants as tokens
 use Rattle.def_grammar.specs.Forms.{text_tokens}
 use Rattle.def_grammar.specs.Query.{select}
 use Rattle.def_grammar.specs.Reading.{reserved, whole}

@@ -23,7 +23,6 @@ use Rattle.def_journal.specs.State.{Session, State, Step, image_of, refused, rep
 use Rattle.def_meaning.specs.Meaning.{meaning}
 use Rattle.def_resolve.specs.Names.{table_refusal}
 use Rattle.def_resolve.specs.Resolve.{resolve}
-use Rattle.def_rewriting.specs.Matching.{query_tokens}
 use Rattle.wh_base.specs.declared.replies.Reply.TheVariants as reply
 use Rattle.wh_base.specs.declared.views.Plan.TheVariants as plan
 
@@ -73,7 +72,7 @@ plan_line c (plan.View p) = ViewAt p.class p.name p.point (back_names c p.back)
 
 -- The plan that is chosen with the session's settings, where the classes that pass the test `built` are built.
 abbrev pub chosen : (Class → Bool) → Catalog → Session → Asked → StarQuery → Plan
-chosen built c x a q = choice built c q (query_tokens a.text) x.level x.rewrite
+chosen built c x a q = choice built c q a.tokens x.level x.rewrite
 
 -- ANSWER with the SCN asked for, the plan, the base rows read, and the rows.
 abbrev pub answer : (Class → Bool) → Catalog → Session → Asked → StarQuery → Reply
@@ -84,7 +83,7 @@ answer built c x a q =
 -- REWRITE with the plan that would be chosen, and each view's class or first failing condition. No base row is read.
 abbrev pub explained : (Class → Bool) → Catalog → Session → Asked → StarQuery → Reply
 explained built c x a q =
-    reply.Rewrite (record { scn = asked_scn c q; plan = plan_line c (chosen built c x a q); verdicts = verdicts c q (query_tokens a.text) x.level x.rewrite })
+    reply.Rewrite (record { scn = asked_scn c q; plan = plan_line c (chosen built c x a q); verdicts = verdicts c q a.tokens x.level x.rewrite })
 
 -- The refusal of the query, having read nothing, or the reply that its star form gives.
 abbrev pub by_query : State → Catalog → Asked → (StarQuery → Reply) → Step

@@ -93,7 +93,7 @@ drop_log c name = do
 
 -- ---- views
 
--- The definition with a number that no view had, its tables in tree order and the text of its query.
+-- The definition with a number that no view had, its tables in tree order and the tokens of its query.
 abbrev pub view_def : Catalog → NewView → StarQuery → ViewDef
 view_def c s q =
     record {
@@ -101,7 +101,7 @@ view_def c s q =
       name = s.name;
       query = q;
       tables = map (def_at (defs_now c)) q.tables;
-      text = s.asked.text;
+      tokens = s.asked.tokens;
       method = s.method;
       on_commit = s.on_commit;
       rewrite = s.rewrite;

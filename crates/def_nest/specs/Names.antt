@@ -10,7 +10,6 @@ use Rattle.wh_base.specs.declared.queries.NamePart.TheVariants.{MarkName, Plain,
 use Rattle.wh_base.specs.declared.queries.RawItem.{RawItem}
 use Rattle.wh_base.specs.declared.queries.RawWhat.{RawWhat}
 use Rattle.wh_base.specs.declared.views.ViewDef.{ViewDef}
-use Rattle.def_grammar.specs.Forms.{text_tokens}
 use Rattle.def_grammar.specs.Query.{select}
 use Rattle.def_grammar.specs.Reading.{whole}
 use Rattle.def_resolve.specs.Names.{the_only}
@@ -34,11 +33,11 @@ what_name (what.Computed a) = None
 abbrev pub item_name : RawItem → Option (List ℕ)
 item_name i = option_case i.alias (what_name i.what) Some
 
--- the names of a view's items as its text writes them, also where the view is over another one; none where the text doesn't read
+-- the names of a view's items as its own CREATE writes them, also where the view is over another one; none where its tokens don't read
 -- as a query with as many items
 abbrev pub item_names : ViewDef → List (Option (List ℕ))
 item_names d =
-    option_case (whole select (text_tokens d.text)) [] (λ q. cond (length q.items == length d.query.items) (map item_name q.items) [])
+    option_case (whole select d.tokens) [] (λ q. cond (length q.items == length d.query.items) (map item_name q.items) [])
 
 -- ---- what a name stands for
 

@@ -17,6 +17,7 @@ use Rattle.wh_base.specs.declared.values.Value.{Value}
 use Rattle.wh_base.specs.declared.values.Value.TheVariants.{Num, Text}
 use Rattle.wh_base.specs.declared.views.ViewDef.{ViewDef}
 use Rattle.wh_base.specs.declared.views.ViewEntry.{ViewEntry}
+use Rattle.def_grammar.specs.Forms.{text_tokens}
 use Rattle.def_nest.specs.Compose.{compose}
 use Rattle.law_nest.specs.Laws.{ItemsAreGrouped}
 use Rattle.law_nest.specs.Rolled.{rolled_view}
@@ -45,7 +46,7 @@ view_by_two = record {
   name = codes "V";
   query = by_two;
   tables = [];
-  text = codes "SELECT G, H, SUM(A) SA, COUNT(*) C FROM U GROUP BY G, H";
+  tokens = text_tokens (codes "SELECT G, H, SUM(A) SA, COUNT(*) C FROM U GROUP BY G, H");
   method = Complete;
   on_commit = false;
   rewrite = false;

@@ -6,14 +6,13 @@ use Rattle.wh_base.specs.declared.statements.Asked.{Asked}
 use Rattle.wh_base.specs.declared.statements.Level.{Level}
 use Rattle.wh_base.specs.declared.statements.Level.TheVariants.{Enforced, StaleTolerated, Trusted}
 use Rattle.wh_base.specs.declared.views.Class.{Class}
-use Rattle.wh_lex.specs.declared.token.Token.{Token}
+use Rattle.wh_base.specs.declared.tokens.Token.{Token}
 use Rattle.def_choice.specs.Choice.{base_then, choice, plan_meaning}
 use Rattle.def_history.specs.Catalog.{Catalog}
 use Rattle.def_history.specs.Declared.{relations_hold}
 use Rattle.def_journal.specs.Answers.{chosen, means_query, plan_rows}
 use Rattle.def_journal.specs.State.{Session}
 use Rattle.def_meaning.specs.Meaning.{meaning}
-use Rattle.def_rewriting.specs.Matching.{query_tokens}
 use Rattle.law_rewrite.specs.Chosen.{ViewFine}
 use Rattle.law_rewrite.proofs.Choosing.{choice_means}
 use Rattle.law_rewrite.proofs.Groups.{Each}
@@ -30,6 +29,6 @@ rows_mean built c q text Trusted enabled fine = by (relations_hold c) refl
 rows_mean built c q text StaleTolerated enabled fine = refl
 
 pub answers_mean : (built : Class → Bool) (c : Catalog) (x : Session) (a : Asked) (q : StarQuery)
-    → (means_query c x.level ≡ true → is_none q.as_of ≡ true → Each (ViewFine c q (query_tokens a.text) x.level) c.views)
+    → (means_query c x.level ≡ true → is_none q.as_of ≡ true → Each (ViewFine c q a.tokens x.level) c.views)
     → plan_rows c q x.level (chosen built c x a q) ≡ plan_meaning c q (chosen built c x a q)
-answers_mean built c x a q fine = rows_mean built c q (query_tokens a.text) x.level x.rewrite fine
+answers_mean built c x a q fine = rows_mean built c q a.tokens x.level x.rewrite fine

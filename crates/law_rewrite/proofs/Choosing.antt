@@ -10,7 +10,7 @@ use Rattle.wh_base.specs.declared.statements.Level.{Level}
 use Rattle.wh_base.specs.declared.views.Back.{Back}
 use Rattle.wh_base.specs.declared.views.Class.{Class}
 use Rattle.wh_base.specs.declared.views.Plan.TheVariants as plan
-use Rattle.wh_lex.specs.declared.token.Token.{Token}
+use Rattle.wh_base.specs.declared.tokens.Token.{Token}
 use Rattle.def_choice.specs.Choice.{Candidate, base_then, best, candidate, candidate_cmp, choice, full_standing, plan_meaning, view_plan, view_rows}
 use Rattle.def_choice.specs.Concat.{concat_holds, fails_e8_alone, or_concat, serves_in_part}
 use Rattle.def_choice.specs.Eligible.{Eligible, Failing, Standing, asks_freshness, back_of, class_of, form_failure, general_class, general_standing, holds_e8, holds_e9, standing, standing_unless, text_class, time_failure}

@@ -12,7 +12,7 @@ use Rattle.wh_base.specs.declared.views.Back.{Back}
 use Rattle.wh_base.specs.declared.views.Class.{Class}
 use Rattle.wh_base.specs.declared.views.Class.TheVariants.{Concat}
 use Rattle.wh_base.specs.declared.views.ViewState.TheVariants.{Fresh, Partly, Stale, Unbuilt}
-use Rattle.wh_lex.specs.declared.token.Token.{Token}
+use Rattle.wh_base.specs.declared.tokens.Token.{Token}
 use Rattle.def_choice.specs.Choice.{full_standing}
 use Rattle.def_choice.specs.Concat.{concat_holds, fails_e8_alone, is_partly, or_concat, serves_in_part, tracks_table_of}
 use Rattle.def_choice.specs.Eligible.{Eligible, Failing, Standing, asks_freshness, form_failure, holds_e8, holds_e9, lesser_failure, standing}

@@ -88,7 +88,7 @@ asked = record {
 }
 
 abbrev view : View
-view = record { def = record { view = 1; name = codes "V"; query = stored_query; tables = fact_def ∷ []; text = []; method = Force; on_commit = false; rewrite = true; beneath = None }; point = Some 1; registered = true; suspended = false }
+view = record { def = record { view = 1; name = codes "V"; query = stored_query; tables = fact_def ∷ []; tokens = []; method = Force; on_commit = false; rewrite = true; beneath = None }; point = Some 1; registered = true; suspended = false }
 
 abbrev touched : ℕ → Interval → Touched
 touched n i = record { table = 0; touch = record { interval = i; number = n; scn = 2 }; by_maintenance = false }

@@ -26,7 +26,7 @@ use Rattle.wh_base.specs.declared.views.Restriction.TheVariants.{P3}
 use Rattle.wh_base.specs.declared.views.ViewEntry.{ViewEntry}
 use Rattle.wh_base.specs.declared.views.ViewState.{ViewState}
 use Rattle.wh_base.specs.declared.views.ViewState.TheVariants.{Fresh, Partly, Stale, Unbuilt}
-use Rattle.wh_lex.specs.declared.token.Token.{Token}
+use Rattle.wh_base.specs.declared.tokens.Token.{Token}
 use Rattle.def_choice.specs.Eligible.{Eligible, asks_freshness, form_failure, general_class, general_standing, holds_e8, holds_e9, is_fresh_enough, is_selected, item_given, leaves_tracked, lesser_failure, own_text, partial_holds, standing, standing_unless, text_class, time_failure}
 use Rattle.def_history.specs.Catalog.{Catalog, View, base_at, base_now, defs_now}
 use Rattle.def_history.specs.Staleness.{content, facts_of, known, stale_intervals}

@@ -7,7 +7,6 @@ use Rattle.def_choice.specs.Choice.{plan_meaning}
 use Rattle.def_history.specs.Catalog.{Catalog}
 use Rattle.def_journal.specs.Answers.{chosen, means_query, plan_rows}
 use Rattle.def_journal.specs.State.{Session}
-use Rattle.def_rewriting.specs.Matching.{query_tokens}
 use Rattle.law_rewrite.specs.Chosen.{ViewFine}
 use Rattle.law_rewrite.specs.Words.{Each}
 
@@ -16,5 +15,5 @@ use Rattle.law_rewrite.specs.Words.{Each}
 abbrev pub AnswersMean : Type 0
 AnswersMean =
     (built : Class → Bool) (c : Catalog) (x : Session) (a : Asked) (q : StarQuery)
-    → (means_query c x.level ≡ true → is_none q.as_of ≡ true → Each (ViewFine c q (query_tokens a.text) x.level) c.views)
+    → (means_query c x.level ≡ true → is_none q.as_of ≡ true → Each (ViewFine c q a.tokens x.level) c.views)
     → plan_rows c q x.level (chosen built c x a q) ≡ plan_meaning c q (chosen built c x a q)

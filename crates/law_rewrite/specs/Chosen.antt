@@ -3,7 +3,7 @@ use Rattle.std.specs.Prelude.{Bool, List, Some, is_none, true, ℕ, ◌≡◌}
 use Rattle.wh_base.specs.declared.queries.StarQuery.{StarQuery}
 use Rattle.wh_base.specs.declared.statements.Level.{Level}
 use Rattle.wh_base.specs.declared.views.Class.{Class}
-use Rattle.wh_lex.specs.declared.token.Token.{Token}
+use Rattle.wh_base.specs.declared.tokens.Token.{Token}
 use Rattle.def_choice.specs.Choice.{base_then, choice, plan_meaning}
 use Rattle.def_choice.specs.Eligible.{asks_freshness}
 use Rattle.def_history.specs.Catalog.{Catalog, View, view_numbered}

@@ -5,7 +5,7 @@ use Rattle.wh_base.specs.declared.queries.StarQuery.{StarQuery}
 use Rattle.wh_base.specs.declared.statements.Level.{Level}
 use Rattle.wh_base.specs.declared.views.Back.{Back}
 use Rattle.wh_base.specs.declared.views.Class.{Class}
-use Rattle.wh_lex.specs.declared.token.Token.{Token}
+use Rattle.wh_base.specs.declared.tokens.Token.{Token}
 use Rattle.def_choice.specs.Choice.{full_standing}
 use Rattle.def_choice.specs.Eligible.{Eligible, asks_freshness, own_text}
 use Rattle.def_dimensions.specs.Relations.{dimension_holds}

@@ -37,7 +37,7 @@ use Rattle.wh_answer.specs.Answered.{HasView, answer_by, base_answer, enforced, 
 use Rattle.wh_answer.specs.Over.{IsImage, IsImageOf}
 use Rattle.wh_image.proofs.Lookup.{lookups}
 use Rattle.wh_image.specs.Standing.{StandsFor}
-use Rattle.wh_lex.specs.declared.token.Token.{Token}
+use Rattle.wh_base.specs.declared.tokens.Token.{Token}
 use Rattle.wh_resolve.specs.Gives.{Gives}
 use Rattle.wh_resolve.specs.declared.query.QueryFault.{QueryFault}
 use Rattle.wh_resolve.specs.declared.query.QueryFault.TheVariants.{Refused}

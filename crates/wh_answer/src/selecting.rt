@@ -28,7 +28,7 @@ use wh_base::views::{Plan, ViewPlan};
 use wh_evaluate::evaluate;
 use wh_image::Image;
 use wh_lex::lex::LexFault;
-use wh_lex::token::Token;
+use wh_base::tokens::Token;
 use wh_resolve::{QueryFault, resolve};
 use wh_rewrite::{all_tokens, choose};
 use wh_view_law::laws::views_answer;

@@ -16,6 +16,7 @@ pub mod seq;
 pub mod shared;
 pub mod statements;
 pub mod tables;
+pub mod tokens;
 pub mod txt;
 pub mod values;
 pub mod views;

@@ -1,6 +1,7 @@
 use crate::queries::{RawCondition, RawQuery};
 use crate::seq::Seq;
 use crate::shared::Shared;
+use crate::tokens::Token;
 use crate::txt::Txt;
 use crate::values::Literal;
 
@@ -21,11 +22,11 @@ pub enum Method {
     Force,
 }
 
-/// A SELECT with the text that its tokens are read from.
+/// A SELECT with the tokens that it is read from.
 #[derive(Drop)]
 pub struct Asked {
     pub query: RawQuery,
-    pub text: Txt,
+    pub tokens: Seq<Token>,
 }
 
 /// INSERT: its table, the columns where they are listed, and the rows; `None` in a row is NULL.

@@ -4,6 +4,7 @@ use crate::queries::StarQuery;
 use crate::seq::Seq;
 use crate::statements::Method;
 use crate::tables::{TableDef, Touch};
+use crate::tokens::Token;
 use crate::txt::Txt;
 use crate::values::Value;
 
@@ -16,15 +17,15 @@ pub struct ViewEntry {
 
 pub type ViewRows = Seq<ViewEntry>;
 
-/// The tables are in tree order. Over another view the query is the composed one, over base tables, and `beneath` is the
-/// number of the view beneath.
+/// A view's definition. `tokens` are those of its query as it is written, and `tables` are in tree order. Over another view
+/// the query is the composed one, over base tables, and `beneath` is the number of the view beneath.
 #[derive(Drop)]
 pub struct ViewDef {
     pub view: u64,
     pub name: Txt,
     pub query: StarQuery,
     pub tables: Seq<TableDef>,
-    pub text: Txt,
+    pub tokens: Seq<Token>,
     pub method: Method,
     pub on_commit: bool,
     pub rewrite: bool,

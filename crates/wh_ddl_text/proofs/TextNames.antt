@@ -10,9 +10,9 @@ use Rattle.wh_ddl_text.specs.Names.{only_name}
 use Rattle.wh_lex.specs.Lex.{IsClosed, IsStatement, ends_statement, is_semicolon, tokens_at, tokens_of, with_front}
 use Rattle.wh_lex.specs.declared.lex.LexFault.{LexFault}
 use Rattle.wh_lex.specs.declared.lex.StatementTokens.{StatementTokens}
-use Rattle.wh_lex.specs.declared.token.Token.{Token}
-use Rattle.wh_lex.specs.declared.token.TokenKind.{TokenKind}
-use Rattle.wh_lex.specs.declared.token.TokenKind.TheVariants as kinds
+use Rattle.wh_base.specs.declared.tokens.Token.{Token}
+use Rattle.wh_base.specs.declared.tokens.TokenKind.{TokenKind}
+use Rattle.wh_base.specs.declared.tokens.TokenKind.TheVariants as kinds
 
 -- no item, and no length
 pub is_empty-length : {X : Type 0} (xs : List X) → is_empty xs ≡ (length xs == 0)

@@ -17,7 +17,7 @@ use crate::tables::{AlterTableRule, CreateTableRule};
 use crate::views::View;
 use std::alloc::Global;
 use wh_base::statements::Statement;
-use wh_lex::token::Token;
+use wh_base::tokens::Token;
 use wh_query_text::parser::{ParseFault, Parser};
 use wh_query_text::rule::{Either, Rule};
 

@@ -13,7 +13,7 @@ use Rattle.wh_base.specs.declared.statements.Statement.{Statement}
 use Rattle.wh_base.specs.declared.statements.Statement.TheVariants as about
 use Rattle.wh_lex.specs.Lex.{tokens_of}
 use Rattle.wh_lex.specs.declared.lex.LexFault.{LexFault}
-use Rattle.wh_lex.specs.declared.token.Token.{Token}
+use Rattle.wh_base.specs.declared.tokens.Token.{Token}
 use Rattle.def_grammar.specs.Forms.{statement_of, text_tokens, tokens_or_none}
 use Rattle.def_grammar.specs.Script.{command_by, is_dml}
 use Rattle.def_grammar.specs.Written.{Each, IsSpelled}

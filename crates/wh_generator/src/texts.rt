@@ -13,7 +13,7 @@ use wh_base::shared::Shared;
 use wh_base::statements::{Block, ChangeStatement, Command, Statement};
 use wh_ddl_text::statements::whole_statement;
 use wh_lex::lex::{LexFault, tokens};
-use wh_lex::token::Token;
+use wh_base::tokens::Token;
 use wh_query_text::parser::ParseFault;
 
 /// How many bytes a text has at the most.

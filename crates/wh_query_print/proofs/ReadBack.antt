@@ -22,8 +22,8 @@ use Rattle.wh_base.specs.declared.values.Literal.{Literal}
 use Rattle.wh_base.specs.declared.values.Literal.TheVariants.{Number, Quoted}
 use Rattle.wh_base.specs.declared.values.Op.{Op}
 use Rattle.wh_base.specs.declared.values.Op.TheVariants.{Eq, Ge, Gt, Le, Lt, Ne}
-use Rattle.wh_lex.specs.declared.token.Token.{Token}
-use Rattle.wh_lex.specs.declared.token.TokenKind.TheVariants as kinds
+use Rattle.wh_base.specs.declared.tokens.Token.{Token}
+use Rattle.wh_base.specs.declared.tokens.TokenKind.TheVariants as kinds
 use Rattle.def_grammar.specs.Canonical.{aggregate_tokens, alias_tokens, bare, column_tokens, comma, condition_column, condition_tail_tokens, condition_tokens, direction_tokens, expression_tokens, item_tokens, key_tokens, listed_tokens, literal_tokens, marked, named, numbered, op_text, order_tokens, part_tokens, qualifier_tokens, signed_tokens, test_tokens, what_tokens}
 use Rattle.def_grammar.specs.Query.{aggregate, aggregate_of, alias, column, column_named_by, condition, condition_on, expression, item, literal, marker, operator, order_key, plain_name, qualifier, rowid_as, signed, test}
 use Rattle.def_grammar.specs.Reading.{Rule, bracketed, gives, listed, mapped, mark, name, number, reserved, word, ◌>>=◌, ◌>>◌, ◌or◌}

@@ -3,9 +3,9 @@ use Rattle.std.proofs.Common.{◌≡◌, ℕ, suc, zero, List, [], ◌∷◌, le
 use Rattle.std.proofs.lemmas.List.{length-map}
 use Rattle.std.specs.Prelude.{codes, option_map, unwrap_or}
 use Rattle.wh_base.specs.Lists.{option_case, where_true}
-use Rattle.wh_lex.specs.declared.token.Token.{Token}
-use Rattle.wh_lex.specs.declared.token.TokenKind.{TokenKind}
-use Rattle.wh_lex.specs.declared.token.TokenKind.TheVariants as kinds
+use Rattle.wh_base.specs.declared.tokens.Token.{Token}
+use Rattle.wh_base.specs.declared.tokens.TokenKind.{TokenKind}
+use Rattle.wh_base.specs.declared.tokens.TokenKind.TheVariants as kinds
 use Rattle.def_grammar.specs.Reading.{Rule, bracketed, gives, is_token, listed, many, many_times, mapped, mark, maybe, optional_list, or_else, token_where, word, ◌>>=◌, ◌>>◌, ◌or◌}
 use Rattle.def_grammar.specs.Written.{Each, EachOfSome, IfThere, IsSpelled}
 use Rattle.wh_query_print.specs.Kept.{unplaced}

@@ -2,7 +2,7 @@
 use Rattle.std.specs.Prelude.{◌≡◌, List, Ok, map, ℕ}
 use Rattle.def_grammar.specs.Canonical.{bare}
 use Rattle.wh_lex.specs.Lex.{tokens_of}
-use Rattle.wh_lex.specs.declared.token.Token.{Token}
+use Rattle.wh_base.specs.declared.tokens.Token.{Token}
 
 -- the token without its place
 abbrev pub unplaced : Token → Token

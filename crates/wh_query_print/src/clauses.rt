@@ -8,7 +8,7 @@ use wh_base::queries::{ColName, RawCondition, RawJoin, RawKey, RawOrder, RawTabl
 use wh_base::seq::Seq;
 use wh_base::txt::Txt;
 use wh_base::values::{Literal, Op};
-use wh_lex::token::TokenKind;
+use wh_base::tokens::TokenKind;
 
 impl ToTokens for RawTable {
     ghost tokens = { another_table_tokens };

@@ -8,7 +8,7 @@ ghost use Rattle.wh_base.specs.declared.statements.Asked.{Asked};
 ghost use Rattle.wh_query_print.specs.Kept.{HasTokens};
 ghost use Rattle.wh_lex.specs.Lex.{statement_at, tokens_of};
 ghost use Rattle.wh_lex.specs.declared.lex.StatementTokens.{StatementTokens};
-ghost use Rattle.wh_lex.specs.declared.token.Token.{Token};
+ghost use Rattle.wh_base.specs.declared.tokens.Token.{Token};
 
 /// The tokens of a text, and those of one of its statements, have texts that tokens may have.
 pub fn tokens_are_spelled()

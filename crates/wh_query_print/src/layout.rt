@@ -6,7 +6,7 @@ ghost use Rattle.wh_query_print.specs.Pieces.{piece_token};
 use crate::pieces::Piece;
 use itoa::Buffer;
 use std::alloc::AllocError;
-use wh_lex::token::TokenKind;
+use wh_base::tokens::TokenKind;
 use wh_query_text::spelling::push_doubled;
 
 // The piece is this mark.

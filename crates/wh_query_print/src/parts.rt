@@ -6,7 +6,7 @@ use std::alloc::AllocError;
 use wh_base::queries::{ColName, NamePart, RawAgg, RawExpr, RawItem, RawWhat};
 use wh_base::txt::Txt;
 use wh_base::values::Literal;
-use wh_lex::token::TokenKind;
+use wh_base::tokens::TokenKind;
 
 /// A number with its sign.
 pub fn push_signed(out: &mut Pieces<'_>, number: i128) -> Result<(), AllocError>

@@ -1,11 +1,11 @@
 ghost use Rattle.def_grammar.specs.Canonical.{bare, more_tokens, numbered};
 ghost use Rattle.std.specs.Prelude.{◌≡◌, ◌++◌, ◌∷◌, List, OnOk, [], map};
-ghost use Rattle.wh_lex.specs.declared.token.Token.{Token};
+ghost use Rattle.wh_base.specs.declared.tokens.Token.{Token};
 ghost use Rattle.wh_query_print.specs.Pieces.{piece_token};
 
 use std::alloc::{AllocError, Global};
 use std::marker::Model;
-use wh_lex::token::TokenKind;
+use wh_base::tokens::TokenKind;
 
 /// A token of a query, which lends its text from it.
 #[derive(Clone, Copy)]
@@ -23,7 +23,7 @@ pub struct Pieces<'a> {
 impl<'a> Model for Pieces<'a> {
     ghost use Rattle.std.specs.Prelude.{List, map};
     ghost use Rattle.std.specs.Coded.{coded_list};
-    ghost use Rattle.wh_lex.specs.declared.token.Token.{Token};
+    ghost use Rattle.wh_base.specs.declared.tokens.Token.{Token};
     ghost use Rattle.wh_lex.specs.contracts.token.Token.{the_row};
     ghost use Rattle.wh_query_print.specs.Pieces.{piece_token};
 

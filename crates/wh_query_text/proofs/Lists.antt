@@ -3,7 +3,7 @@ use Rattle.std.proofs.Common.{◌≡◌, ℕ, ◌+◌, ◌<◌, suc, List, [], �
 use Rattle.std.proofs.lemmas.List.{drop_more}
 use Rattle.std.specs.Prelude.{flat_map, option_map}
 use Rattle.def_grammar.specs.Reading.{many_times}
-use Rattle.wh_lex.specs.declared.token.Token.{Token}
+use Rattle.wh_base.specs.declared.tokens.Token.{Token}
 
 -- these items before those that are read
 abbrev pub with_items : {X : Type 0} → List X → Option (List X × List Token) → Option (List X × List Token)

@@ -6,7 +6,7 @@ use Rattle.def_grammar.specs.Reading.{Rule, bracketed, gives, listed, mapped, ma
 use Rattle.wh_base.specs.Lists.{option_case}
 use Rattle.wh_base.specs.declared.queries.ColName.{ColName}
 use Rattle.wh_base.specs.declared.queries.RawCondition.TheVariants as raw
-use Rattle.wh_lex.specs.declared.token.Token.{Token}
+use Rattle.wh_base.specs.declared.tokens.Token.{Token}
 use Rattle.wh_query_text.specs.Tail.{any_tail, between_tail, compare_tail, condition_with, equal_tail, null_tail, one_of_tail}
 use Rattle.wh_query_text.specs.declared.query.conditions.ConditionTail.TheVariants as tails
 

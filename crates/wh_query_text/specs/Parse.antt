@@ -1,7 +1,7 @@
 -- How what the code reads has to do with the rules of the grammar.
 use Rattle.std.specs.Prelude.{◌≡◌, ℕ, List, [], ◌∷◌, Option, Some, None, Result, Ok, Err, ⊤}
-use Rattle.wh_lex.specs.declared.token.Token.{Token}
-use Rattle.wh_lex.specs.declared.token.TokenKind.TheVariants as kinds
+use Rattle.wh_base.specs.declared.tokens.Token.{Token}
+use Rattle.wh_base.specs.declared.tokens.TokenKind.TheVariants as kinds
 use Rattle.wh_query_text.specs.declared.parser.ParseFault.{ParseFault}
 use Rattle.wh_query_text.specs.declared.parser.ParseFault.TheVariants as faults
 

@@ -10,7 +10,7 @@ use crate::spelling::spelled;
 use std::alloc::Global;
 use std::marker::Model;
 use wh_base::txt::Txt;
-use wh_lex::token::{Token, TokenKind};
+use wh_base::tokens::{Token, TokenKind};
 
 /// Why no rule of the grammar was read.
 #[derive(Clone, Copy, Debug, PartialEq, Eq)]
@@ -33,7 +33,7 @@ impl<'a> Model for Parser<'a> {
     ghost use Rattle.std.specs.Prelude.{◌≡◌, List, true};
     ghost use Rattle.std.specs.Coded.{coded_list};
     ghost use Rattle.wh_lex.specs.Lex.{token_fits};
-    ghost use Rattle.wh_lex.specs.declared.token.Token.{Token};
+    ghost use Rattle.wh_base.specs.declared.tokens.Token.{Token};
     ghost use Rattle.wh_lex.specs.contracts.token.Token.{the_row};
 
     ghost Value = { List Token };

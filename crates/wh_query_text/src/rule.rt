@@ -1,6 +1,6 @@
 ghost use Rattle.def_grammar.specs.Reading.{◌>>◌, ◌or◌, bracketed, listed, many, mark, maybe};
 ghost use Rattle.std.specs.Prelude.{◌∷◌, List, Option, codes};
-ghost use Rattle.wh_lex.specs.declared.token.Token.{Token};
+ghost use Rattle.wh_base.specs.declared.tokens.Token.{Token};
 ghost use Rattle.wh_query_text.specs.Parse.{Gives};
 ghost use Rattle.wh_query_text.specs.Pieces.{Makes};
 

@@ -3,7 +3,7 @@ ghost use Rattle.std.specs.Prelude.{◌≡◌, ◌∷◌, ◌++◌, IfOk, OnOk, 
 
 use std::alloc::{AllocError, Global};
 use wh_base::txt::Txt;
-use wh_lex::token::{Token, TokenKind};
+use wh_base::tokens::{Token, TokenKind};
 
 /// A text whose tokens are these: with a space behind each, and each quote doubled. An error says that memory ran out
 /// or that the text has 2^32 bytes or more.

@@ -5,7 +5,7 @@ use Rattle.wh_base.specs.declared.statements.ScriptKind.TheVariants.{NotUtf8}
 use Rattle.wh_lex.specs.Lex.{tokens_from}
 use Rattle.wh_lex.specs.declared.lex.LexFault.{LexFault}
 use Rattle.wh_lex.specs.declared.lex.LexFault.TheVariants as faults
-use Rattle.wh_lex.specs.declared.token.Token.{Token}
+use Rattle.wh_base.specs.declared.tokens.Token.{Token}
 use Rattle.def_grammar.specs.Forms.{tokens_or_none}
 use Rattle.def_grammar.specs.Lines.{DirectiveAt, EndAt, LoadBlock, Piece, TextRun, pieces}
 use Rattle.def_grammar.specs.Script.{Element, Stated, StatementTokens, Unreadable, broken_within, elements_by, elements_of, fault_element, fault_place, is_semicolon, piece_elements, size_of, split_statements, stated, text_elements}

@@ -7,7 +7,7 @@ use Rattle.wh_base.specs.declared.queries.RawQuery.{RawQuery}
 use Rattle.wh_base.specs.declared.statements.Asked.{Asked}
 use Rattle.wh_lex.specs.Lex.{tokens_of}
 use Rattle.wh_lex.specs.declared.lex.LexFault.{LexFault}
-use Rattle.wh_lex.specs.declared.token.Token.{Token}
+use Rattle.wh_base.specs.declared.tokens.Token.{Token}
 use Rattle.def_grammar.specs.Forms.{asked}
 use Rattle.def_grammar.specs.Query.{select}
 use Rattle.def_grammar.specs.Reading.{spelled, whole}

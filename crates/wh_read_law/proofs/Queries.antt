@@ -24,7 +24,7 @@ use Rattle.wh_base.specs.declared.queries.RawWhat.TheVariants as what
 use Rattle.wh_base.specs.declared.values.Literal.TheVariants.{Number, Quoted}
 use Rattle.wh_base.specs.declared.values.Op.{Op}
 use Rattle.wh_base.specs.declared.values.Op.TheVariants.{Eq, Ge, Gt, Le, Lt, Ne}
-use Rattle.wh_lex.specs.declared.token.TokenKind.TheVariants as kinds
+use Rattle.wh_base.specs.declared.tokens.TokenKind.TheVariants as kinds
 use Rattle.def_grammar.specs.Query.{aggregate, aggregate_of, alias, all_of, as_of, column, column_named_by, condition, condition_on, expression, from_tables, item, join, joined_table, literal, marker, on_join, op_of, operator, order_key, plain_name, product_or_column, qualifier, rowid_as, select, signed, table, table_with, test, where_conditions}
 use Rattle.def_grammar.specs.Reading.{Rule, bracketed, gives, listed, many, mapped, mark, maybe, name, number, optional_list, quoted, reserved, same_token_kind, word, ◌>>=◌, ◌>>◌, ◌or◌}
 use Rattle.wh_read_law.proofs.Places.{Placeless, bind-same, bracketed-blind, bracketed-same, const-same, gives-same, listed-same, many-same, mapped-same, mark-blind, maybe-blind, maybe-same, optional-same, or-same, then-blind, then-same, token-same, word-blind}

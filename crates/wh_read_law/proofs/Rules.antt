@@ -1,7 +1,7 @@
 -- What holds of each value that a rule of the grammar reads.
 use Rattle.std.proofs.Common.{◌≡◌, ℕ, List, [], ◌∷◌, Bool, true, false, option_map, Option, None, Some}
 use Rattle.wh_base.specs.Lists.{option_case, where_true}
-use Rattle.wh_lex.specs.declared.token.Token.{Token}
+use Rattle.wh_base.specs.declared.tokens.Token.{Token}
 use Rattle.def_grammar.specs.Forms.{all_words}
 use Rattle.def_grammar.specs.Reading.{Rule, gives, is_name, mapped, name, or_else, token_where, word, ◌>>=◌, ◌>>◌, ◌or◌}
 use Rattle.def_grammar.specs.Written.{Each, IsSpelled}

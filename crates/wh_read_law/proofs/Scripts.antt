@@ -7,7 +7,7 @@ use Rattle.wh_base.specs.declared.statements.Command.{Command}
 use Rattle.wh_base.specs.declared.statements.Script.{Script}
 use Rattle.wh_base.specs.declared.statements.Section.{Section}
 use Rattle.wh_base.specs.declared.statements.Statement.{Statement}
-use Rattle.wh_lex.specs.declared.token.Token.{Token}
+use Rattle.wh_base.specs.declared.tokens.Token.{Token}
 use Rattle.def_built.specs.Form.{built_script, draft_is_built}
 use Rattle.def_grammar.specs.Forms.{statement_of}
 use Rattle.def_grammar.specs.Script.{Draft, script_where}

@@ -5,7 +5,7 @@ use Rattle.wh_lex.specs.Tokens.{front_of}
 use Rattle.wh_lex.specs.declared.front.Front.{Front}
 use Rattle.wh_lex.specs.declared.front.Front.TheVariants as front
 use Rattle.wh_lex.specs.declared.lex.LexFault.{LexFault}
-use Rattle.wh_lex.specs.declared.token.Token.{Token}
+use Rattle.wh_base.specs.declared.tokens.Token.{Token}
 use Rattle.def_grammar.specs.Forms.{tokens_or_none}
 use Rattle.def_grammar.specs.Written.{Each, IsSpelled}
 use Rattle.wh_query_print.specs.Kept.{unplaced}

@@ -17,7 +17,7 @@ use Rattle.wh_base.specs.declared.statements.Statement.{Statement}
 use Rattle.wh_base.specs.declared.statements.Statement.TheVariants as about
 use Rattle.wh_base.specs.declared.statements.TableStatement.TheVariants.{AlterTable, CreateTable}
 use Rattle.wh_base.specs.declared.statements.ViewStatement.TheVariants.{AlterView, CreateView, DropView, Unregister}
-use Rattle.wh_lex.specs.declared.token.Token.{Token}
+use Rattle.wh_base.specs.declared.tokens.Token.{Token}
 use Rattle.def_grammar.specs.Forms.{all_words, alter_table, alter_view, asked, attribute, create_dimension, create_log, create_table, create_view, definition, delete, dimension, dml, fast_or_other, foreign_part, hierarchy, insert, is_deferred, key_part, level, level_setting, log, log_options, method_text, name_text_token, named_form, new_column_part, on_commit, on_or_off, other, own_conditions, part_change, partitioning, refresh, refresh_clause, rewrite_clause, row_value, session_setting, set_column, statement, statement_of, update, view}
 use Rattle.def_grammar.specs.Reading.{Rule, bracketed, gives, listed, many, mapped, mark, maybe, name, number, optional_list, word, ◌>>=◌, ◌>>◌, ◌or◌}
 use Rattle.def_grammar.specs.Written.{Each, IsSpelled}

@@ -14,7 +14,7 @@ use Rattle.wh_base.specs.declared.statements.ScriptKind.TheVariants.{LoadShape, 
 use Rattle.wh_base.specs.declared.statements.Section.{Section}
 use Rattle.wh_base.specs.declared.statements.Statement.{Statement}
 use Rattle.wh_base.specs.declared.statements.Statement.TheVariants as about
-use Rattle.wh_lex.specs.declared.token.Token.{Token}
+use Rattle.wh_base.specs.declared.tokens.Token.{Token}
 use Rattle.def_grammar.specs.Forms.{statement_of}
 use Rattle.def_grammar.specs.Lines.{Directive, EndLoad, EndScript, LoadOf, Order, SessionAt, Setup, Unknown}
 use Rattle.def_grammar.specs.Script.{Directed, Draft, Drafted, Element, Ended, Loaded, OpenBlockAt, Stated, StatementTokens, Unreadable, after_fault, bad, begin_section, begin_session, block_bytes, command_by, elements_of, finish, first_draft, in_section, is_dml, is_inner, is_later, is_only_word, is_uneven, last_number, line_at, may_load, open_fault, order_by, order_fault, read_from, records, script_where, sections_of, session_number, statement_place, take_closed, take_command, take_directive, take_inner, take_load, take_statement, where_built, with_command, with_inner, with_order}

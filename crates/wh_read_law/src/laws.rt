@@ -8,7 +8,7 @@ ghost use Rattle.wh_base.specs.declared.statements.Asked.{Asked};
 ghost use Rattle.wh_base.specs.declared.statements.Command.TheVariants.{Other};
 ghost use Rattle.wh_base.specs.declared.statements.Script.{Script};
 ghost use Rattle.wh_base.specs.declared.statements.Statement.{Statement};
-ghost use Rattle.wh_lex.specs.declared.token.Token.{Token};
+ghost use Rattle.wh_base.specs.declared.tokens.Token.{Token};
 ghost use Rattle.wh_view_law.specs.Read.{IsRead, ReadsAs};
 
 use wh_query_print::laws::{tokens_are_spelled, what_is_kept_reads_as_its_tokens};

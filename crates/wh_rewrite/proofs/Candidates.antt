@@ -21,7 +21,7 @@ use Rattle.def_rewriting.specs.Compatible.{failing}
 use Rattle.def_rewriting.specs.Matching.{FullText, NoText, PartialText, TextMatch, match_text, read_tokens}
 use Rattle.def_rewriting.specs.Reaching.{reach}
 use Rattle.wh_image.specs.Standing.{StandsFor}
-use Rattle.wh_lex.specs.declared.token.Token.{Token}
+use Rattle.wh_base.specs.declared.tokens.Token.{Token}
 use Rattle.wh_rewrite.proofs.Fresh.{IsWhole, state_is}
 use Rattle.wh_rewrite.specs.Served.{is_fresh, is_full, is_full_match, is_full_text, is_still, seen_state, serves, state_since}
 use Rattle.wh_table.specs.Stored.{Stored}

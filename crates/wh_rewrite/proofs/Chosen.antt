@@ -13,7 +13,7 @@ use Rattle.def_choice.specs.Choice.{Candidate, candidate, candidate_cmp, choice,
 use Rattle.def_history.specs.Catalog.{Catalog}
 use Rattle.def_history.specs.Staleness.{content}
 use Rattle.wh_image.specs.Standing.{StandsFor}
-use Rattle.wh_lex.specs.declared.token.Token.{Token}
+use Rattle.wh_base.specs.declared.tokens.Token.{Token}
 use Rattle.wh_rewrite.proofs.Candidates.{candidate_is}
 use Rattle.wh_rewrite.proofs.Fresh.{IsWhole, all_whole}
 use Rattle.wh_rewrite.specs.Served.{best_from, lesser, plan_by, serves}

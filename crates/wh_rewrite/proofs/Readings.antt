@@ -4,7 +4,7 @@ use Rattle.wh_base.specs.Lists.{option_case}
 use Rattle.def_rewriting.specs.Matching.{read_tokens}
 use Rattle.wh_lex.specs.Lex.{tokens_of}
 use Rattle.wh_lex.specs.declared.lex.LexFault.{LexFault}
-use Rattle.wh_lex.specs.declared.token.Token.{Token}
+use Rattle.wh_base.specs.declared.tokens.Token.{Token}
 use Rattle.wh_lex.proofs.Statements.{tokens_at-end, tokens_at-first, with_front-more}
 use Rattle.wh_rewrite.specs.Served.{is_full, is_full_text}
 

@@ -15,7 +15,7 @@ use Rattle.def_history.specs.Staleness.{point_of}
 use Rattle.def_restrictions.specs.Definition.{table_defs}
 use Rattle.def_rewriting.specs.Matching.{FullText, NoText, PartialText, TextMatch, match_text, read_tokens}
 use Rattle.wh_image.specs.Standing.{changed_at}
-use Rattle.wh_lex.specs.declared.token.Token.{Token}
+use Rattle.wh_base.specs.declared.tokens.Token.{Token}
 use Rattle.wh_table.specs.Stored.{Stored}
 use Rattle.wh_view.specs.Kept.{Kept}
 use Rattle.wh_base.specs.declared.views.Plan.TheVariants as plan

@@ -13,7 +13,7 @@ use wh_base::seq::Seq;
 use wh_base::statements::Level;
 use wh_base::views::{Class, Plan, ViewPlan, ViewState};
 use wh_image::Image;
-use wh_lex::token::Token;
+use wh_base::tokens::Token;
 use wh_table::Tables;
 use wh_view::KeptView;
 

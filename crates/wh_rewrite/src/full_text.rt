@@ -6,7 +6,7 @@ use std::alloc::{AllocError, Global};
 use wh_base::seq::Seq;
 use wh_base::txt::Txt;
 use wh_lex::lex::{LexFault, StatementTokens, statement_tokens};
-use wh_lex::token::Token;
+use wh_base::tokens::Token;
 use wh_text_match::{TextMatch, match_text};
 
 /// Whether the tokens of a query are those of a view's text up to ORDER BY. A text that has no tokens matches nothing. An error

@@ -12,8 +12,8 @@ use Rattle.wh_lex.specs.declared.front.Front.TheVariants as front
 use Rattle.wh_lex.specs.declared.lex.LexFault.{LexFault}
 use Rattle.wh_lex.specs.declared.lex.LexFault.TheVariants as faults
 use Rattle.wh_lex.specs.declared.lex.StatementTokens.{StatementTokens}
-use Rattle.wh_lex.specs.declared.token.Token.{Token}
-use Rattle.wh_lex.specs.declared.token.TokenKind.{TokenKind}
+use Rattle.wh_base.specs.declared.tokens.Token.{Token}
+use Rattle.wh_base.specs.declared.tokens.TokenKind.{TokenKind}
 use Rattle.wh_script.proofs.Cuts.{IsCutBehind, front-cut}
 
 -- what stands at a place, and then the tokens behind so many more bytes; none from a fault on

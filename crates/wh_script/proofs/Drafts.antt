@@ -1,7 +1,7 @@
 -- The steps of a draft.
 use Rattle.std.proofs.Common.{◌≡◌, ℕ, List, None, Result, Some}
 use Rattle.def_grammar.specs.Script.{Draft, OpenBlockAt, take_closed, take_inner}
-use Rattle.wh_lex.specs.declared.token.Token.{Token}
+use Rattle.wh_base.specs.declared.tokens.Token.{Token}
 use Rattle.wh_script.specs.Sections.{Gives}
 use Rattle.wh_script.specs.declared.fault.ScriptFault.{ScriptFault}
 

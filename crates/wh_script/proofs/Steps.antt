@@ -14,7 +14,7 @@ use Rattle.wh_base.specs.declared.statements.BadScript.{BadScript}
 use Rattle.wh_base.specs.declared.statements.Command.{Command}
 use Rattle.wh_base.specs.declared.statements.Command.TheVariants as commands
 use Rattle.wh_base.specs.declared.statements.Section.{Section}
-use Rattle.wh_lex.specs.declared.token.Token.{Token}
+use Rattle.wh_base.specs.declared.tokens.Token.{Token}
 use Rattle.wh_script.proofs.LastCommands.{all_more, but_last-end}
 use Rattle.wh_script.specs.Built.{IsBuiltBefore, but_last, may_stand, shorter_last, shorter_section}
 

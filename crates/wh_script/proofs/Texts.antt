@@ -17,9 +17,9 @@ use Rattle.wh_lex.specs.Lex.{Gives as LexGives, is_semicolon as closes}
 use Rattle.wh_lex.specs.declared.lex.LexFault.{LexFault}
 use Rattle.wh_lex.specs.declared.lex.LexFault.TheVariants as lex
 use Rattle.wh_lex.specs.declared.lex.StatementTokens.{StatementTokens}
-use Rattle.wh_lex.specs.declared.token.Token.{Token}
-use Rattle.wh_lex.specs.declared.token.TokenKind.{TokenKind}
-use Rattle.wh_lex.specs.declared.token.TokenKind.TheVariants as kinds
+use Rattle.wh_base.specs.declared.tokens.Token.{Token}
+use Rattle.wh_base.specs.declared.tokens.TokenKind.{TokenKind}
+use Rattle.wh_base.specs.declared.tokens.TokenKind.TheVariants as kinds
 use Rattle.wh_script.proofs.Before.{IsBetween, IsFirstAt, before-all, before-cut, before-inner, before-statement, fault-between, statement-first, tokens_before}
 use Rattle.wh_script.specs.Drafts.{stated}
 use Rattle.wh_script.specs.Pieces.{IsTaken}

@@ -10,7 +10,7 @@ use Rattle.wh_base.specs.declared.statements.ScriptKind.{ScriptKind}
 use Rattle.wh_lex.specs.Lex.{ends_statement, tokens_at}
 use Rattle.wh_lex.specs.declared.lex.LexFault.{LexFault}
 use Rattle.wh_lex.specs.declared.lex.StatementTokens.{StatementTokens}
-use Rattle.wh_lex.specs.declared.token.Token.{Token}
+use Rattle.wh_base.specs.declared.tokens.Token.{Token}
 use Rattle.wh_script.specs.declared.fault.ScriptFault.{ScriptFault}
 use Rattle.wh_script.specs.declared.fault.ScriptFault.TheVariants as faults
 use Rattle.wh_script.specs.declared.lines.LineMark.{LineMark}

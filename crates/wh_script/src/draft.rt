@@ -16,7 +16,7 @@ use wh_base::statements::{
 };
 use wh_ddl_text::statements::whole_statement;
 use wh_lex::lex::StatementTokens;
-use wh_lex::token::Token;
+use wh_base::tokens::Token;
 use wh_query_text::parser::{ParseFault, Parser};
 
 /// A block that is open: the line of its BEGIN and its statements so far.

@@ -16,7 +16,7 @@ use Rattle.def_grammar.specs.Query.{select}
 use Rattle.def_grammar.specs.Reading.{whole}
 use Rattle.def_rewriting.specs.Matching.{query_tokens}
 use Rattle.wh_lex.specs.Lex.{tokens_of}
-use Rattle.wh_lex.specs.declared.token.Token.{Token}
+use Rattle.wh_base.specs.declared.tokens.Token.{Token}
 use Rattle.wh_session.specs.Run.{CanRun, Continues, Run}
 use Rattle.wh_view_law.specs.Read.{IsRead}
 

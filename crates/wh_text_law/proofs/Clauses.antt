@@ -22,8 +22,8 @@ use Rattle.wh_base.specs.declared.values.Literal.{Literal}
 use Rattle.wh_base.specs.declared.values.Literal.TheVariants.{Dated, Number, Quoted}
 use Rattle.wh_base.specs.declared.values.Op.{Op}
 use Rattle.wh_base.specs.declared.values.Op.TheVariants.{Eq, Ge, Gt, Le, Lt, Ne}
-use Rattle.wh_lex.specs.declared.token.Token.{Token}
-use Rattle.wh_lex.specs.declared.token.TokenKind.TheVariants as kinds
+use Rattle.wh_base.specs.declared.tokens.Token.{Token}
+use Rattle.wh_base.specs.declared.tokens.TokenKind.TheVariants as kinds
 use Rattle.def_grammar.specs.Query.{aggregate, aggregate_of, alias, all_of, as_of, column, column_named_by, condition, condition_on, date, expression, from_tables, item, join, joined_table, literal, marker, on_join, op_of, operator, plain_name, product_or_column, qualifier, rowid_as, signed, table, table_with, test, where_conditions}
 use Rattle.def_grammar.specs.Reading.{Rule, bracketed, gives, listed, made_by, many, mapped, mark, maybe, name, number, optional_list, quoted, reserved, same_token_kind, word, ◌>>=◌, ◌>>◌, ◌or◌}
 use Rattle.wh_text_law.proofs.Steady.{Alike, Along, Blind, Steady, size, bind-steady, bracketed-steady, const-steady, gives-steady, listed-steady, many-steady, mapped-steady, mark-blind, mark-first, maybe-blind, maybe-steady, optional-steady, or-steady, then-blind, then-later, then-steady, token-steady, weaker, word-blind, word-first}

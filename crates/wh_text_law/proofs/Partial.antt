@@ -5,9 +5,9 @@ use Rattle.std.proofs.lemmas.Slice.Eq.{bytes_eq-Decides}
 use Rattle.wh_base.specs.Lists.{is_empty, option_case, same_text, where_true}
 use Rattle.wh_base.specs.declared.queries.RawItem.{RawItem}
 use Rattle.wh_base.specs.declared.queries.RawQuery.{RawQuery}
-use Rattle.wh_lex.specs.declared.token.Token.{Token}
-use Rattle.wh_lex.specs.declared.token.TokenKind.{TokenKind}
-use Rattle.wh_lex.specs.declared.token.TokenKind.TheVariants as kinds
+use Rattle.wh_base.specs.declared.tokens.Token.{Token}
+use Rattle.wh_base.specs.declared.tokens.TokenKind.{TokenKind}
+use Rattle.wh_base.specs.declared.tokens.TokenKind.TheVariants as kinds
 use Rattle.def_grammar.specs.Query.{as_of, from_tables, item, select, where_conditions}
 use Rattle.def_grammar.specs.Reading.{Rule, gives, is_token, listed, mapped, same_token_kind, whole, word, ◌>>=◌, ◌>>◌}
 use Rattle.def_rewriting.specs.Matching.{FullText, NoText, PartialText, before_order, from_on, match_text, same_kind, same_tokens}

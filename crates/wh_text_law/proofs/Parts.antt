@@ -10,9 +10,9 @@ use Rattle.wh_base.specs.declared.queries.RawKey.{RawKey}
 use Rattle.wh_base.specs.declared.queries.RawQuery.{RawQuery}
 use Rattle.wh_base.specs.declared.queries.RawTable.{RawTable}
 use Rattle.wh_base.specs.declared.queries.RawTest.{RawTest}
-use Rattle.wh_lex.specs.declared.token.Token.{Token}
-use Rattle.wh_lex.specs.declared.token.TokenKind.{TokenKind}
-use Rattle.wh_lex.specs.declared.token.TokenKind.TheVariants as kinds
+use Rattle.wh_base.specs.declared.tokens.Token.{Token}
+use Rattle.wh_base.specs.declared.tokens.TokenKind.{TokenKind}
+use Rattle.wh_base.specs.declared.tokens.TokenKind.TheVariants as kinds
 use Rattle.def_grammar.specs.Query.{as_of, from_tables, item, order_key, select, where_conditions}
 use Rattle.def_grammar.specs.Reading.{Rule, gives, listed, optional_list, whole, word, ◌>>=◌, ◌>>◌}
 use Rattle.def_rewriting.specs.Matching.{FullText, NoText, PartialText, before_order, from_on, match_text, same_kind, same_token, same_tokens}

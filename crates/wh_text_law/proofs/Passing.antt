@@ -14,9 +14,9 @@ use Rattle.wh_base.specs.declared.queries.RawExpr.TheVariants.{Constant}
 use Rattle.wh_base.specs.declared.queries.RawItem.{RawItem}
 use Rattle.wh_base.specs.declared.queries.RawWhat.{RawWhat}
 use Rattle.wh_base.specs.declared.queries.RawWhat.TheVariants as what
-use Rattle.wh_lex.specs.declared.token.Token.{Token}
-use Rattle.wh_lex.specs.declared.token.TokenKind.{TokenKind}
-use Rattle.wh_lex.specs.declared.token.TokenKind.TheVariants as kinds
+use Rattle.wh_base.specs.declared.tokens.Token.{Token}
+use Rattle.wh_base.specs.declared.tokens.TokenKind.{TokenKind}
+use Rattle.wh_base.specs.declared.tokens.TokenKind.TheVariants as kinds
 use Rattle.def_grammar.specs.Query.{aggregate, aggregate_of, alias, column, column_named_by, expression, item, marker, plain_name, product_or_column, qualifier, rowid_as, signed}
 use Rattle.def_grammar.specs.Reading.{Rule, bracketed, gives, listed, many, many_times, mapped, mark, maybe, name, number, or_else, reserved, same_token_kind, token_where, word, ◌>>=◌, ◌>>◌, ◌or◌}
 use Rattle.def_rewriting.specs.Matching.{before_order, from_on, is_word, same_kind}

@@ -2,9 +2,9 @@
 use Rattle.std.proofs.Common.{◌≡◌, ℕ, suc, zero, ◌+◌, ◌≤◌, List, [], ◌∷◌, length, refl, ap, ap₂, sym, arith, true, false, Bool, ◌&&◌, cond, subst, Option, Some, None, option_map, unwrap_or, codes}
 use Rattle.std.proofs.lemmas.Slice.Eq.{bytes_eq-Decides}
 use Rattle.wh_base.specs.Lists.{option_case, same_text, where_true}
-use Rattle.wh_lex.specs.declared.token.Token.{Token}
-use Rattle.wh_lex.specs.declared.token.TokenKind.{TokenKind}
-use Rattle.wh_lex.specs.declared.token.TokenKind.TheVariants as kinds
+use Rattle.wh_base.specs.declared.tokens.Token.{Token}
+use Rattle.wh_base.specs.declared.tokens.TokenKind.{TokenKind}
+use Rattle.wh_base.specs.declared.tokens.TokenKind.TheVariants as kinds
 use Rattle.def_grammar.specs.Reading.{Rule, bracketed, gives, listed, many, many_times, mapped, mark, maybe, optional_list, or_else, same_token_kind, token_where, word, ◌>>=◌, ◌>>◌, ◌or◌}
 use Rattle.def_rewriting.specs.Matching.{is_word, same_kind}
 

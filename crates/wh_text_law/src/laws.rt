@@ -10,7 +10,7 @@ ghost use Rattle.wh_base.specs.Tables.{Base, table_at};
 ghost use Rattle.wh_base.specs.declared.queries.RawQuery.{RawQuery};
 ghost use Rattle.wh_base.specs.declared.queries.StarQuery.{StarQuery};
 ghost use Rattle.wh_base.specs.declared.tables.TableDef.{TableDef};
-ghost use Rattle.wh_lex.specs.declared.token.Token.{Token};
+ghost use Rattle.wh_base.specs.declared.tokens.Token.{Token};
 ghost use Rattle.wh_text_law.specs.Unordered.{from_formed, unordered, without_order};
 
 /// Two texts that are equal up to ORDER BY, token by token, are queries that are equal in all but ORDER BY: in their items with

@@ -14,7 +14,7 @@ use Rattle.wh_base.specs.declared.views.Class.{Class}
 use Rattle.wh_base.specs.declared.views.Class.TheVariants.{Full, General, JoinBack, Partial}
 use Rattle.wh_base.specs.declared.views.Plan.TheVariants as plan
 use Rattle.wh_base.specs.declared.views.ViewPlan.{ViewPlan}
-use Rattle.wh_lex.specs.declared.token.Token.{Token}
+use Rattle.wh_base.specs.declared.tokens.Token.{Token}
 use Rattle.def_choice.specs.Choice.{Candidate, best, candidate, candidate_cmp, choice, class_is_built, view_plan}
 use Rattle.def_choice.specs.Eligible.{Standing, back_of, class_of, form_failure, general_class, holds_e8, holds_e9, is_fresh_enough, partial_holds, standing_unless, text_class, time_failure}
 use Rattle.def_history.specs.Catalog.{Catalog, View, defs_now, view_numbered}

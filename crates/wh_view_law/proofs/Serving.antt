@@ -23,7 +23,7 @@ use Rattle.wh_base.specs.declared.views.ViewEntry.{ViewEntry}
 use Rattle.wh_base.specs.declared.views.ViewPlan.{ViewPlan}
 use Rattle.wh_base.specs.declared.views.ViewState.{ViewState}
 use Rattle.wh_base.specs.declared.views.ViewState.TheVariants.{Fresh, Partly, Stale, Unbuilt}
-use Rattle.wh_lex.specs.declared.token.Token.{Token}
+use Rattle.wh_base.specs.declared.tokens.Token.{Token}
 use Rattle.def_choice.specs.Choice.{base_then, choice}
 use Rattle.def_choice.specs.Eligible.{is_fresh_enough}
 use Rattle.def_grammar.specs.Query.{select}

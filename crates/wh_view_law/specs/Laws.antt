@@ -2,7 +2,7 @@
 use Rattle.std.specs.List.{All, list_all, list_any}
 use Rattle.std.specs.Option.{ForSome}
 use Rattle.std.specs.Prelude.{[], ◌≡◌, ◌≤◌, ◌++◌, Bool, List, None, Ok, Some, false, length, map, nat_le, true, ℕ}
-use Rattle.wh_lex.specs.declared.token.Token.{Token}
+use Rattle.wh_base.specs.declared.tokens.Token.{Token}
 use Rattle.wh_base.specs.Tables.{def_at}
 use Rattle.wh_base.specs.declared.queries.RawQuery.{RawQuery}
 use Rattle.wh_base.specs.declared.queries.StarQuery.{StarQuery}
