@@ -9,4 +9,4 @@ mod refusals;
 mod replies;
 mod words;
 
-pub use replies::{push_first_line, push_journal, push_reply};
+pub use replies::{journal_text, push_first_line, push_journal, push_reply, reply_text};

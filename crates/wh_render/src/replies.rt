@@ -1,4 +1,4 @@
-ghost use Rattle.std.specs.Prelude.{◌≡◌, ◌++◌, ◌∷◌, OnOk, [], map};
+ghost use Rattle.std.specs.Prelude.{◌≡◌, ◌++◌, ◌∷◌, IfOk, OnOk, [], map};
 ghost use Rattle.def_transcript.specs.Texts.{body_words, entry_text, first_lines, id_text, journal_line, lines_text, reply_lines, words, worker_text};
 ghost use Rattle.wh_render.specs.Pieces.{more_words};
 
@@ -6,9 +6,11 @@ use crate::bodies::push_body;
 use crate::fields::Printed;
 use crate::lines::push_lines_after;
 use crate::words::{push_all_printed, push_number};
-use std::alloc::AllocError;
+use std::alloc::{AllocError, Global};
 use wh_base::replies::Reply;
+use wh_base::seq::Seq;
 use wh_base::statements::{Entry, Id};
+use wh_base::txt::Txt;
 use wh_base::values::Version;
 
 /// The session and the command; for the reply of a job JOB and the worker.
@@ -92,6 +94,16 @@ pub fn push_reply(
     Ok(())
 }
 
+/// The text of the reply to a command, as this version of transcripts has it. An error says that memory ran out, or that the
+/// text has 2^32 bytes or more.
+pub fn reply_text(alloc: Global, id: Id, reply: &Reply, version: Version) -> Result<Txt, AllocError>
+    ensures { IfOk result (λ text. text ≡ lines_text (reply_lines version id reply.now)) }
+{
+    let mut out = Vec::new(alloc);
+    push_reply(&mut out, version, id, reply)?;
+    Txt::from_vec(out)
+}
+
 /// Writes the line of a journal at the end of `out`, with its line end. An error says that memory ran out; `out` then
 /// has a part of the line. The form of the line is this project's own.
 pub fn push_journal(out: &mut Vec<u8>, entries: &[Entry]) -> Result<(), AllocError>
@@ -102,4 +114,18 @@ pub fn push_journal(out: &mut Vec<u8>, entries: &[Entry]) -> Result<(), AllocErr
     push_all_printed(out, entries)?;
     out.push(b'\n')?;
     Ok(())
+}
+
+/// The line of a journal with its line end, which is the same in each version of transcripts. An error says that memory ran
+/// out, or that the text has 2^32 bytes or more.
+pub fn journal_text(
+    alloc: Global,
+    journal: &Seq<Entry>,
+    _version: Version,
+) -> Result<Txt, AllocError>
+    ensures { IfOk result (λ text. text ≡ lines_text (journal_line journal.now ∷ [])) }
+{
+    let mut out = Vec::new(alloc);
+    push_journal(&mut out, journal.as_slice())?;
+    Txt::from_vec(out)
 }
