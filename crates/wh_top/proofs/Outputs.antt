@@ -1,20 +1,24 @@
 -- What is written and counted for a whole script.
 use Rattle.std.proofs.Common.{◌≡◌, ◌∙◌, sym, ap, subst, refl, arith, ℕ, ◌+◌, ◌==◌, true, cond, List, [], ◌∷◌, ◌++◌, length, map, drop, take, flat_map, Some}
-use Rattle.std.specs.List.{AllByRecursion, enumerate_from}
+use Rattle.std.specs.List.{AllByRecursion, enumerate_from, list_all}
+use Rattle.std.proofs.lemmas.Bool.{and_parts, eqb-true}
 use Rattle.std.proofs.lemmas.List.{append-nil, append_assoc, drop_all, take_all}
 use Rattle.std.proofs.lemmas.List.Sums.{sum_by-cons}
-use Rattle.wh_base.specs.Parts.{section_entries}
+use Rattle.wh_base.specs.Parts.{bearer, section_entries}
 use Rattle.wh_base.specs.declared.statements.Entry.{Entry}
 use Rattle.wh_base.specs.declared.statements.Script.{Script}
 use Rattle.wh_base.specs.declared.statements.Section.{Section}
 use Rattle.wh_base.specs.declared.values.Version.{Version}
-use Rattle.def_journal.specs.Journal.{is_legal, of_session, order_of, state_of, trace_of}
+use Rattle.def_journal.specs.Jobs.{accepted_submits, is_own}
+use Rattle.def_journal.specs.Journal.{Told, is_legal, of_session, order_of, replies_of, state_of, trace_of}
+use Rattle.def_output.specs.Reads.{reads_of, told_to}
 use Rattle.def_output.specs.Program.{CountersRose, own_order, reads_at}
 use Rattle.def_transcript.specs.Texts.{first_lines, journal_line, lines_text}
 use Rattle.def_transcript.specs.Transcript.{transcript}
-use Rattle.wh_order.specs.Laws.{session_told, told_text}
+use Rattle.wh_order.specs.Laws.{session_told, told_in, told_text}
 use Rattle.wh_order.proofs.Journals.{each_own}
 use Rattle.wh_order.proofs.Lawful.{laws_hold}
+use Rattle.wh_order.proofs.Told.{answers_hold, journal_answered}
 use Rattle.wh_session.specs.Run.{Run}
 use Rattle.wh_top.specs.Running.{AreAsFar, CountedSoFar, HasRun, IsAsFar, IsRunnable, ahead_of, read_by}
 use Rattle.wh_top.proofs.SoFar.{neither}
@@ -39,14 +43,34 @@ raised_same f g k (c ∷ cs) same = ap (λ x. (c + x) ∷ map (λ p. p.1 + f p.0
 
 -- a script's own order is legal
 pub order_legal : (script : Script) → IsRunnable script → is_legal script (order_of script) ≡ true
-order_legal script runnable = laws_hold.legal script runnable.differ
+order_legal script runnable = laws_hold.legal script runnable.no_jobs runnable.differ
+
+-- ---- no worker has a reply
+
+own_workers : (journal : List Entry) → list_all is_own journal ≡ true → AllByRecursion (λ e. e.worker ≡ 0) journal
+own_workers [] own = tt
+own_workers (e ∷ es) own =
+    let parts = and_parts (is_own e) (list_all is_own es) own in
+    (eqb-true e.worker 0 parts.0, own_workers es parts.1)
+
+told_same : (n : ℕ) (told : List Told) → AllByRecursion (λ t. t.id.worker ≡ 0) told → told_to n told ≡ told_in n told
+told_same n [] alone = refl
+told_same n (t ∷ ts) alone =
+    ap (λ w. cond (bearer t.id.session w == n) (t ∷ told_to n ts) (told_to n ts)) alone.0
+    ∙ ap (λ us. cond (t.id.session == n) (t ∷ us) us) (told_same n ts alone.1)
+
+-- so what is told under the number of a session is what is told to it
+told_alone : (script : Script) (journal : List Entry) (n : ℕ) → accepted_submits script ≡ [] → is_legal script journal ≡ true → told_to n (replies_of (trace_of script journal)) ≡ told_in n (replies_of (trace_of script journal))
+told_alone script journal n none legal =
+    let given : List Told = replies_of (trace_of script journal) in
+    told_same n given (answers_hold (λ i. i.worker ≡ 0) journal given (journal_answered script journal) (own_workers journal (laws_hold.all_own script journal none legal)))
 
 -- what was counted for the whole order
 pub counted_whole : (version : Version) (script : Script) (runs : List Run) (old reads : List ℕ) → IsRunnable script → AreAsFar version script (order_of script) script.sections runs → CountedSoFar script (order_of script) runs old reads → CountersRose (reads_at (Some (own_order script))) old reads
 counted_whole version script runs old reads runnable far counted =
     let journal : List Entry = order_of script in
-    let none : (n : ℕ) → ahead_of n runs ≡ 0 = λ n. ended_ahead version script journal n script.sections runs (each_own script journal (order_legal script runnable)) far in
-    let same : (n : ℕ) → read_by script journal runs n ≡ reads_at (Some (own_order script)) n = λ n. omega (arith, none n) in
+    let none : (n : ℕ) → ahead_of n runs ≡ 0 = λ n. ended_ahead version script journal n script.sections runs (each_own script journal runnable.no_jobs (order_legal script runnable)) far in
+    let same : (n : ℕ) → read_by script journal runs n ≡ reads_at (Some (own_order script)) n = λ n. omega (arith, none n, ap reads_of (told_alone script journal n runnable.no_jobs (order_legal script runnable))) in
     counted ∙ raised_same (read_by script journal runs) (reads_at (Some (own_order script))) 0 old same
 
 texts_far : (version : Version) (script : Script) (journal : List Entry) (ss : List Section) (rs : List Run) → AreAsFar version script journal ss rs → flat_map (λ r. r.text) rs ≡ flat_map (λ s. told_text version (session_told script journal s)) ss
@@ -65,7 +89,7 @@ output_whole version script runs runnable far =
     let last : List ℕ = lines_text (journal_line journal ∷ []) in
     append_assoc first (flat_map (λ r. r.text) runs) last
     ∙ ap (λ t. first ++ (t ++ last)) (texts_far version script journal script.sections runs far)
-    ∙ sym (laws_hold.transcript_by_sessions version script journal (order_legal script runnable))
+    ∙ sym (laws_hold.transcript_by_sessions version script journal runnable.no_jobs (order_legal script runnable))
 
 -- the script has run whole, where it and its order go by other names
 pub has_run : (version : Version) (script whole : Script) (journal : List Entry) (runs : List Run) (scn : ℕ) → whole ≡ script → journal ≡ order_of script → AreAsFar version whole journal whole.sections runs → scn ≡ (state_of (trace_of whole journal)).catalog.scn → HasRun version script runs journal scn

@@ -92,12 +92,12 @@ within_sessions n s (t ∷ ss) h found = by (t.session == n) found (within_sessi
 
 pub entry_within : (script : Script) (front rest : List Entry) (e : Entry) → IsRunnable script → is_legal script (front ++ e ∷ rest) ≡ true → e.session ≤ most_sessions
 entry_within script front rest e runnable legal =
-    let next : IsNext script front e = next_part script front rest e legal in
+    let next : IsNext script front e = next_part script front rest e runnable.no_jobs legal in
     subst (λ n. n ≤ most_sessions) (found_own e.session next.section script.sections next.found) (within_sessions e.session next.section script.sections runnable.within next.found)
 
-pub next_so_far : (version : Version) (script : Script) (front rest : List Entry) (e : Entry) (trace : List Event) (runs : List Run) (old reads : List ℕ) → is_legal script (front ++ e ∷ rest) ≡ true → SoFar version script front trace runs old reads → HasNext e.session runs trace
-next_so_far version script front rest e trace runs old reads legal far =
-    let next : IsNext script front e = next_part script front rest e legal in
+pub next_so_far : (version : Version) (script : Script) (front rest : List Entry) (e : Entry) (trace : List Event) (runs : List Run) (old reads : List ℕ) → IsRunnable script → is_legal script (front ++ e ∷ rest) ≡ true → SoFar version script front trace runs old reads → HasNext e.session runs trace
+next_so_far version script front rest e trace runs old reads runnable legal far =
+    let next : IsNext script front e = next_part script front rest e runnable.no_jobs legal in
     let own = found_own e.session next.section script.sections next.found in
     let run = run_found version script front e.session next.section script.sections runs far.far next.found in
     subst (HasNext e.session runs) (sym far.trace_is) (record {
@@ -115,7 +115,7 @@ some_run x y e = cc
 pub step_so_far : (version : Version) (script : Script) (front rest : List Entry) (e : Entry) (trace trace_after : List Event) (runs runs_after : List Run) (old reads reads_after : List ℕ) → IsRunnable script → is_legal script (front ++ e ∷ rest) ≡ true → length old ≡ 65 → SoFar version script front trace runs old reads → IsTaken e.session runs runs_after trace trace_after reads reads_after → SoFar version script (front ++ e ∷ []) trace_after runs_after old reads_after
 step_so_far version script front rest e trace trace_after runs runs_after old reads reads_after runnable legal many far taken =
     let n : ℕ = e.session in
-    let next : IsNext script front e = next_part script front rest e legal in
+    let next : IsNext script front e = next_part script front rest e runnable.no_jobs legal in
     let s : Section = next.section in
     let own : s.session ≡ n = found_own n s script.sections next.found in
     let found = run_found version script front n s script.sections runs far.far next.found in

@@ -8,6 +8,7 @@ use Rattle.wh_base.specs.declared.statements.Section.{Section}
 use Rattle.wh_base.specs.declared.statements.Event.{Event}
 use Rattle.wh_base.specs.declared.values.Version.{Version}
 use Rattle.def_built.specs.Form.{script_is_built}
+use Rattle.def_journal.specs.Jobs.{accepted_submits}
 use Rattle.def_journal.specs.Journal.{of_session, order_of, replies_of, session_numbers, state_of, trace_of}
 use Rattle.def_output.specs.Reads.{reads_of}
 use Rattle.wh_order.specs.Laws.{number_twice, session_told, told_in, told_text}
@@ -19,12 +20,13 @@ use Rattle.wh_session.specs.declared.tally.Tally.{Tally}
 abbrev pub most_sessions : ℕ
 most_sessions = 64
 
--- A script that can be run: each of its sections can be, and has a number of its own, from 0 to 64.
+-- A script that can be run: each of its sections can be, and has a number of its own, from 0 to 64; and no SUBMIT makes a job.
 pub record IsRunnable (script : Script) : Type 0 where
   pub built : script_is_built script ≡ true
   pub sections : All CanRun script.sections
   pub differ : number_twice (session_numbers script) ≡ None
   pub within : All (λ n. n ≤ most_sessions) (session_numbers script)
+  pub no_jobs : accepted_submits script ≡ []
 
 -- The session has taken its parts in this front of a journal, and its text has their replies in this version.
 pub record IsAsFar (version : Version) (script : Script) (front : List Entry) (s : Section) (r : Run) : Type 0 where

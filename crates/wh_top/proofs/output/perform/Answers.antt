@@ -7,7 +7,7 @@ use Rattle.wh_top.proofs.output.perform.Goals as goal
 pub take_parts-requires-clause-legal : goal.take_parts-requires-clause-legal
 take_parts-requires-clause-legal g c =
     ap (λ s. is_legal s c.in_ok-journal.journal) c.of-whole.ensures
-    ∙ ap (is_legal c.args.script) c.in_ok-journal.ensures
+    ∙ ap (is_legal c.args.script) (c.in_ok-journal.ensures.whole c.requires.runnable.no_jobs)
     ∙ order_legal c.args.script c.requires.runnable
 
 pub returns-clause-ran : goal.returns-clause-ran
@@ -20,7 +20,7 @@ returns-clause-ran g c =
     let same : length runs ≡ length made.items = omega (arith, c.take_parts.auto.sessions) in
     let back = written_back made.len runs made.items count same in
     let far = subst (λ v. AreAsFar v whole journal whole.sections runs) c.of-told.ensures c.in_ok-scn.ensures.far in
-    let ran = has_run c.args.version c.args.script whole journal runs c.in_ok-scn.scn c.of-whole.ensures c.in_ok-journal.ensures far c.in_ok-scn.ensures.scn in
+    let ran = has_run c.args.version c.args.script whole journal runs c.in_ok-scn.scn c.of-whole.ensures (c.in_ok-journal.ensures.whole c.requires.runnable.no_jobs) far c.in_ok-scn.ensures.scn in
     subst (λ rs. HasRun c.args.version c.args.script rs journal c.in_ok-scn.scn) (sym back) ran
 
 pub returns-clause-counted : goal.returns-clause-counted
@@ -29,4 +29,4 @@ returns-clause-counted g c =
     let journal = c.in_ok-journal.journal in
     let runs = c.take_parts.new.sessions in
     let far = subst (λ v. AreAsFar v whole journal whole.sections runs) c.of-told.ensures c.in_ok-scn.ensures.far in
-    output_counted c.args.version c.args.script whole journal runs c.args.reads.now c.take_parts.new.reads c.requires.runnable c.of-whole.ensures c.in_ok-journal.ensures far c.in_ok-scn.ensures.counted
+    output_counted c.args.version c.args.script whole journal runs c.args.reads.now c.take_parts.new.reads c.requires.runnable c.of-whole.ensures (c.in_ok-journal.ensures.whole c.requires.runnable.no_jobs) far c.in_ok-scn.ensures.counted

@@ -19,7 +19,7 @@ take_part-requires-clause-next g c =
     let i = c.loop-entry.entry-index in
     let within : i < length entries = omega arith in
     let legal = legal_at script journal entries i none c.as_slice-entry-items.ensures.items within c.requires.legal in
-    next_so_far c.args.version.value script (take i journal) (drop (suc i) journal) (get_or entries i none) c.loop-entry.core c.loop-entry.sessions c.args.reads.now c.loop-entry.reads legal c.loop-entry.invariant
+    next_so_far c.args.version.value script (take i journal) (drop (suc i) journal) (get_or entries i none) c.loop-entry.core c.loop-entry.sessions c.args.reads.now c.loop-entry.reads c.requires.runnable legal c.loop-entry.invariant
 
 pub take_part-requires-clause-counter : goal.take_part-requires-clause-counter
 take_part-requires-clause-counter g c =
