@@ -14,7 +14,7 @@ use Rattle.wh_base.specs.declared.views.Plan.{Plan}
 use Rattle.wh_base.specs.declared.views.Verdict.{Verdict}
 use Rattle.wh_base.specs.declared.views.ViewPlan.{ViewPlan}
 use Rattle.def_choice.specs.Concat.{concat_holds, or_concat}
-use Rattle.def_choice.specs.Eligible.{Standing, back_of, class_of, failed_of, standing}
+use Rattle.def_choice.specs.Eligible.{Standing, back_of, class_of, serving_of, standing}
 use Rattle.def_history.specs.Catalog.{Catalog, View, base_at, base_now, defs_now, view_numbered}
 use Rattle.def_history.specs.Staleness.{content, point_of, stale_intervals}
 use Rattle.wh_base.specs.declared.tokens.Token.{Token}
@@ -112,10 +112,10 @@ plan_reads c q (plan.View p) = option_case (view_numbered c p.view) 0 (view_read
 
 -- ---- EXPLAIN REWRITE
 
--- The view's name with its class, built or not, or with the number of the condition that fails first.
+-- The view's name with its class, built or not, or with the requirement that fails first.
 abbrev pub verdict : Catalog → StarQuery → List Token → Level → Bool → View → Verdict
 verdict c q text level enabled v =
-    let s = full_standing c q text level enabled v in record { view = v.def.name; class = class_of s; failed = failed_of s }
+    record { view = v.def.name; serving = serving_of (full_standing c q text level enabled v) }
 
 -- One for each view, in the order of creation.
 abbrev pub verdicts : Catalog → StarQuery → List Token → Level → Bool → List Verdict

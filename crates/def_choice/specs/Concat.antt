@@ -39,5 +39,5 @@ concat_holds c q level enabled v = asks_freshness level && (fails_e8_alone c q l
 -- A view that fails, and may answer so, has the class CONCAT.
 abbrev pub or_concat : Bool → Standing → Standing
 or_concat may (Eligible class back) = Eligible class back
-or_concat false (Failing n) = Failing n
-or_concat true (Failing n) = Eligible Concat []
+or_concat false (Failing e) = Failing e
+or_concat true (Failing e) = Eligible Concat []

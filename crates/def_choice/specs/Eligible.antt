@@ -2,7 +2,7 @@
 -- In this crate `q` is the query, `text` has the tokens of its text, `level` is the session's
 -- integrity level, `enabled` says whether the session has rewrite enabled, and `back` has the tables joined back.
 use Rattle.std.specs.List.{list_all}
-use Rattle.std.specs.Prelude.{Bool, List, None, Option, Some, [], cond, false, is_none, is_some, min, not, option_and_then, true, ℕ, ◌&&◌, ◌==◌, ◌||◌, ◌∷◌}
+use Rattle.std.specs.Prelude.{Bool, List, None, Option, Some, [], cond, false, is_none, is_some, nat_le, not, option_and_then, true, ℕ, ◌&&◌, ◌||◌, ◌∷◌}
 use Rattle.wh_base.specs.Lists.{first_some, is_empty, option_case, where_true}
 use Rattle.wh_base.specs.declared.columns.ColRef.{ColRef}
 use Rattle.wh_base.specs.declared.queries.Item.{Item}
@@ -14,6 +14,9 @@ use Rattle.wh_base.specs.declared.views.Back.{Back}
 use Rattle.wh_base.specs.declared.views.Class.{Class}
 use Rattle.wh_base.specs.declared.views.Class.TheVariants.{Full, General, JoinBack, Partial}
 use Rattle.wh_base.specs.declared.views.Reach.{Reach}
+use Rattle.wh_base.specs.declared.views.Requirement.{Requirement}
+use Rattle.wh_base.specs.declared.views.Serving.{Serving}
+use Rattle.wh_base.specs.declared.views.Serving.TheVariants.{Fails, Serves}
 use Rattle.wh_base.specs.declared.views.ViewDef.{ViewDef}
 use Rattle.wh_base.specs.declared.views.ViewState.{ViewState}
 use Rattle.wh_base.specs.declared.views.ViewState.TheVariants.{Fresh, Partly, Stale, Unbuilt}
@@ -27,6 +30,7 @@ use Rattle.def_rewriting.specs.Matching.{FullText, NoText, PartialText, TextMatc
 use Rattle.def_rewriting.specs.Reaching.{reach}
 use Rattle.def_rewriting.specs.Rollup.{computable, origin}
 use Rattle.wh_base.specs.declared.queries.Item.TheVariants as item
+use Rattle.wh_base.specs.declared.views.Requirement.TheVariants as requirement
 
 -- ---- E8 and E9
 
@@ -96,38 +100,50 @@ text_class defs q text v = option_and_then (λ given. of_match (match_text text 
 -- ---- the first that fails
 
 -- The first of E8 and E9 that fails, for a plan that joins these tables back.
-abbrev pub time_failure : Catalog → StarQuery → Level → Bool → List Back → View → Option ℕ
-time_failure c q level enabled back v = first_some (failing 8 (holds_e8 c q level back v) ∷ failing 9 (holds_e9 q enabled v) ∷ [])
+abbrev pub time_failure : Catalog → StarQuery → Level → Bool → List Back → View → Option Requirement
+time_failure c q level enabled back v = first_some (failing requirement.E8 (holds_e8 c q level back v) ∷ failing requirement.E9 (holds_e9 q enabled v) ∷ [])
 
--- The lesser number of two that failed.
-abbrev pub lesser_failure : Option ℕ → Option ℕ → Option ℕ
-lesser_failure None n = n
-lesser_failure (Some m) None = Some m
-lesser_failure (Some m) (Some n) = Some (min m n)
+-- The place of a requirement in the order in which they are told.
+abbrev pub requirement_place : Requirement → ℕ
+requirement_place requirement.E1 = 1
+requirement_place requirement.E2 = 2
+requirement_place requirement.E3 = 3
+requirement_place requirement.E4 = 4
+requirement_place requirement.E5 = 5
+requirement_place requirement.E6 = 6
+requirement_place requirement.E7 = 7
+requirement_place requirement.E8 = 8
+requirement_place requirement.E9 = 9
 
--- The one of least number among E1 to E7 that fails.
-abbrev pub form_failure : Catalog → StarQuery → Level → View → Reach → Option ℕ
+-- The one of two that failed which is told first.
+abbrev pub earlier_failure : Option Requirement → Option Requirement → Option Requirement
+earlier_failure None f = f
+earlier_failure (Some e) None = Some e
+earlier_failure (Some e) (Some f) = Some (cond (nat_le (requirement_place e) (requirement_place f)) e f)
+
+-- The first among E1 to E7 that fails.
+abbrev pub form_failure : Catalog → StarQuery → Level → View → Reach → Option Requirement
 form_failure c q level v r =
     let defs = defs_now c in
     let d = v.def.query in
-    lesser_failure (compatible defs level q d) (lesser_failure (failing r.failed (r.failed == 0)) (failing 7 (computable defs q d)))
+    earlier_failure (compatible defs level q d) (earlier_failure r.failed (failing requirement.E7 (computable defs q d)))
 
--- What a view can do for a query: answer it, with its class and the tables joined back, or not, with the number of the condition that fails first.
+-- What a view can do for a query: answer it, with its class and the tables joined back, or not, with the requirement that fails first.
 pub data Standing : Type 0 where
   Eligible : Class → List Back → Standing
-  Failing : ℕ → Standing
+  Failing : Requirement → Standing
 
--- Eligible, unless a condition has failed.
-abbrev pub standing_unless : Option ℕ → Class → List Back → Standing
+-- Eligible, unless a requirement has failed.
+abbrev pub standing_unless : Option Requirement → Class → List Back → Standing
 standing_unless None class back = Eligible class back
-standing_unless (Some n) class back = Failing n
+standing_unless (Some e) class back = Failing e
 
 -- GENERAL where no table is joined back, else JOINBACK.
 abbrev pub general_class : List Back → Class
 general_class [] = General
 general_class (b ∷ bs) = JoinBack
 
--- Without a text match all of E1 to E9 are asked, by their numbers.
+-- Without a text match all of E1 to E9 are asked.
 abbrev pub general_standing : Catalog → StarQuery → Level → Bool → View → Standing
 general_standing c q level enabled v =
     let w = reach (defs_now c) c.dimensions level q v.def.query in
@@ -141,14 +157,14 @@ standing c q text level enabled v =
 -- The class of a view that is eligible.
 abbrev pub class_of : Standing → Option Class
 class_of (Eligible class back) = Some class
-class_of (Failing n) = None
+class_of (Failing e) = None
 
--- The number of the condition that failed, and 0 where the view is eligible.
-abbrev pub failed_of : Standing → ℕ
-failed_of (Eligible class back) = 0
-failed_of (Failing n) = n
+-- What is told of a view that stands so.
+abbrev pub serving_of : Standing → Serving
+serving_of (Eligible class back) = Serves class
+serving_of (Failing e) = Fails e
 
 -- The tables joined back.
 abbrev pub back_of : Standing → List Back
 back_of (Eligible class back) = back
-back_of (Failing n) = []
+back_of (Failing e) = []

@@ -39,6 +39,12 @@ use Rattle.wh_base.specs.declared.views.ViewState.TheVariants.{Fresh, Partly, St
 use Rattle.wh_base.specs.declared.replies.Reply.TheVariants as reply
 use Rattle.wh_base.specs.declared.replies.Reason.TheVariants as reason
 use Rattle.wh_base.specs.declared.replies.Code.TheVariants as code
+use Rattle.wh_base.specs.declared.replies.Place.{Place}
+use Rattle.wh_base.specs.declared.replies.Place.TheVariants as place
+use Rattle.wh_base.specs.declared.views.Requirement.{Requirement}
+use Rattle.wh_base.specs.declared.views.Requirement.TheVariants as requirement
+use Rattle.wh_base.specs.declared.views.Serving.{Serving}
+use Rattle.wh_base.specs.declared.views.Serving.TheVariants.{Fails, Serves}
 
 -- ---- pieces of lines
 
@@ -72,12 +78,32 @@ method_text Force = codes "FORCE"
 
 -- The code of a restriction, as F13 or P1.
 abbrev pub code_text : Code → List ℕ
-code_text (code.F n) = codes "F" ++ decimal n
-code_text (code.P n) = codes "P" ++ decimal n
+code_text code.F1 = codes "F1"
+code_text code.F2 = codes "F2"
+code_text code.F3 = codes "F3"
+code_text code.F4 = codes "F4"
+code_text code.F5 = codes "F5"
+code_text code.F6 = codes "F6"
+code_text code.F7 = codes "F7"
+code_text code.F8 = codes "F8"
+code_text code.F9 = codes "F9"
+code_text code.F10 = codes "F10"
+code_text code.F11 = codes "F11"
+code_text code.F12 = codes "F12"
+code_text code.F13 = codes "F13"
+code_text code.P1 = codes "P1"
+code_text code.P2 = codes "P2"
+code_text code.P3 = codes "P3"
+
+-- What a restriction names.
+abbrev pub place_words : Place → List (List ℕ)
+place_words place.View = []
+place_words (place.Table t) = t ∷ []
+place_words (place.Column t c) = t ∷ c ∷ []
 
 -- A restriction with its table and column, where it prints them.
 abbrev pub restricted_text : Restricted → List ℕ
-restricted_text r = words (code_text r.code ∷ r.table ∷ r.column ∷ [])
+restricted_text r = words (code_text r.code ∷ place_words r.place)
 
 -- ---- refusals
 
@@ -219,19 +245,36 @@ explain_names =
     ∷ codes "REWRITE_PCT"
     ∷ []
 
--- Why a name says N: a restriction, the number of a condition of rewrite, or that the view is over a view.
+-- A requirement of rewrite, as E7.
+abbrev pub requirement_text : Requirement → List ℕ
+requirement_text requirement.E1 = codes "E1"
+requirement_text requirement.E2 = codes "E2"
+requirement_text requirement.E3 = codes "E3"
+requirement_text requirement.E4 = codes "E4"
+requirement_text requirement.E5 = codes "E5"
+requirement_text requirement.E6 = codes "E6"
+requirement_text requirement.E7 = codes "E7"
+requirement_text requirement.E8 = codes "E8"
+requirement_text requirement.E9 = codes "E9"
+
+-- Why a name says N: a restriction, a requirement of rewrite, or that the view is over a view.
 abbrev pub reason_text : Reason → List ℕ
 reason_text (reason.Refresh r) = restricted_text r
-reason_text (reason.Rewrite n) = codes "E" ++ decimal n
+reason_text (reason.Rewrite e) = requirement_text e
 reason_text reason.Nested = codes "MV-31"
 
 -- A name with Y and an empty field, or with N and its reason.
 abbrev pub explain_line : List ℕ × Option Reason → List ℕ
 explain_line p = option_case p.1 (fields (p.0 ∷ codes "Y" ∷ [] ∷ [])) (λ r. fields (p.0 ∷ codes "N" ∷ reason_text r ∷ []))
 
--- A view with its class, or with the first condition of rewrite that fails.
+-- How a view can answer, or the first requirement that fails.
+abbrev pub serving_text : Serving → List ℕ
+serving_text (Serves class) = class_text class
+serving_text (Fails e) = requirement_text e
+
+-- A view with its class, or with the first requirement of rewrite that fails.
 abbrev pub verdict_text : Verdict → List ℕ
-verdict_text v = fields (v.view ∷ option_case v.class (codes "E" ++ decimal v.failed) class_text ∷ [])
+verdict_text v = fields (v.view ∷ serving_text v.serving ∷ [])
 
 -- The number of a declared relation, and the rowid of a row that breaks it.
 abbrev pub broken_text : Broken → List ℕ

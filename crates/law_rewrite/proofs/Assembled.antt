@@ -51,6 +51,8 @@ use Rattle.law_rewrite.proofs.Whole.{Plan, Stand, reads_of}
 use Rattle.law_rewrite.proofs.Aggregated.{agg_plan}
 use Rattle.law_rewrite.proofs.Tupled.{join_plan}
 use Rattle.law_rewrite.proofs.Walking.{JoinedBack, Known, Settled, Walked, turn, no_fail, walked, Nothing, Gained, Found, Turn, common_back, settled_more, settled_nothing}
+use Rattle.wh_base.specs.declared.views.Requirement.{Requirement}
+use Rattle.wh_base.specs.declared.views.Requirement.TheVariants as requirement
 
 -- ---- counting
 
@@ -145,24 +147,24 @@ module _ (defs : List TableDef) (dims : List Dimension) (q v : StarQuery) (base 
   abbrev rows : ℕ → List RowAt
   rows = rows_at base
 
-  was_true : (n : ℕ) (b : Bool) (rest : List (Option ℕ)) → first_some (where_true (not b) n ∷ rest) ≡ None → (b ≡ true) × (first_some rest ≡ None)
-  was_true n true rest h = (refl, h)
-  was_true n false rest h = cc
+  was_true : (e : Requirement) (b : Bool) (rest : List (Option Requirement)) → first_some (where_true (not b) e ∷ rest) ≡ None → (b ≡ true) × (first_some rest ≡ None)
+  was_true e true rest h = (refl, h)
+  was_true e false rest h = cc
 
-  abbrev last_three : List (Option ℕ)
-  last_three = failing 2 (same_joins q v) ∷ failing 4 (extra_tables_hold defs level q v) ∷ failing 5 (conditions_implied defs q v) ∷ []
+  abbrev last_three : List (Option Requirement)
+  last_three = failing requirement.E2 (same_joins q v) ∷ failing requirement.E4 (extra_tables_hold defs level q v) ∷ failing requirement.E5 (conditions_implied defs q v) ∷ []
 
   e1 : (same_root q v ≡ true) × (first_some last_three ≡ None)
-  e1 = was_true 1 (same_root q v) last_three passes
+  e1 = was_true requirement.E1 (same_root q v) last_three passes
 
-  e2 : (same_joins q v ≡ true) × (first_some (failing 4 (extra_tables_hold defs level q v) ∷ failing 5 (conditions_implied defs q v) ∷ []) ≡ None)
-  e2 = was_true 2 (same_joins q v) (failing 4 (extra_tables_hold defs level q v) ∷ failing 5 (conditions_implied defs q v) ∷ []) e1.1
+  e2 : (same_joins q v ≡ true) × (first_some (failing requirement.E4 (extra_tables_hold defs level q v) ∷ failing requirement.E5 (conditions_implied defs q v) ∷ []) ≡ None)
+  e2 = was_true requirement.E2 (same_joins q v) (failing requirement.E4 (extra_tables_hold defs level q v) ∷ failing requirement.E5 (conditions_implied defs q v) ∷ []) e1.1
 
-  e4 : (extra_tables_hold defs level q v ≡ true) × (first_some (failing 5 (conditions_implied defs q v) ∷ []) ≡ None)
-  e4 = was_true 4 (extra_tables_hold defs level q v) (failing 5 (conditions_implied defs q v) ∷ []) e2.1
+  e4 : (extra_tables_hold defs level q v ≡ true) × (first_some (failing requirement.E5 (conditions_implied defs q v) ∷ []) ≡ None)
+  e4 = was_true requirement.E4 (extra_tables_hold defs level q v) (failing requirement.E5 (conditions_implied defs q v) ∷ []) e2.1
 
-  e5 : (conditions_implied defs q v ≡ true) × (first_some {A = ℕ} [] ≡ None)
-  e5 = was_true 5 (conditions_implied defs q v) [] e4.1
+  e5 : (conditions_implied defs q v ≡ true) × (first_some {A = Requirement} [] ≡ None)
+  e5 = was_true requirement.E5 (conditions_implied defs q v) [] e4.1
 
   pub unique : (c : ColRef) → is_key_column defs c ≡ true → AtMost rows c
   unique c key w = let same : times (λ r. equal_not_null w (part_value r c.part)) (rows c.table) ≡ with_value c.part w (rows c.table) = times_length (λ r. equal_not_null w (part_value r c.part)) (rows c.table) in
@@ -251,7 +253,7 @@ module _ (defs : List TableDef) (dims : List Dimension) (q v : StarQuery) (base 
 
   -- ---- the walk from the root
 
-  module _ (reaches : (reach defs dims level q v).failed ≡ 0) where
+  module _ (reaches : (reach defs dims level q v).failed ≡ None) where
     abbrev pub start : Walk
     start = record { back = []; fails_e3 = false; fails_e6 = false }
 
@@ -272,9 +274,9 @@ module _ (defs : List TableDef) (dims : List Dimension) (q v : StarQuery) (base 
         let both : ((fold turned start q.tables).fails_e3 ≡ false) × ((fold turned start q.tables).fails_e6 ≡ false) = by (fold turned start q.tables).fails_e3 (fold turned start q.tables).fails_e6 reaches in
         (ap (λ (w : Walk). w.fails_e3) (sym walk_is) ∙ both.0, ap (λ (w : Walk). w.fails_e6) (sym walk_is) ∙ both.1)
       where
-        by : (a b : Bool) → failed_by a b ≡ 0 → (a ≡ false) × (b ≡ false)
-        by true b h = absurd (omega (arith, h))
-        by false true h = absurd (omega (arith, h))
+        by : (a b : Bool) → failed_by a b ≡ None → (a ≡ false) × (b ≡ false)
+        by true b h = cc
+        by false true h = cc
         by false false h = (refl, refl)
 
     root_there : has_number v.tables q.root ≡ true

@@ -24,6 +24,7 @@ use Rattle.law_rewrite.proofs.Groups.{Each}
 use Rattle.law_rewrite.proofs.In_part.{full_means, was_none}
 use Rattle.law_rewrite.proofs.Placing.{and_both}
 use Rattle.law_rewrite.proofs.Standing_law.{eligible_is, holds_of, none_first}
+use Rattle.wh_base.specs.declared.views.Requirement.TheVariants as requirement
 
 -- ---- lists
 
@@ -62,8 +63,8 @@ each_given {B = B} P Q f k (x ∷ xs) h = by (f x) refl (each_given P Q f k xs h
 module _ (c : Catalog) (q : StarQuery) (text : List Token) (level : Level) (enabled : Bool) where
   times_nine : (back : List Back) (v : View) → time_failure c q level enabled back v ≡ None → holds_e9 q enabled v ≡ true
   times_nine back v h =
-      holds_of 9 (holds_e9 q enabled v)
-      (none_first (failing 9 (holds_e9 q enabled v)) [] (none_first (failing 8 (holds_e8 c q level back v)) (failing 9 (holds_e9 q enabled v) ∷ []) h).1).0
+      holds_of requirement.E9 (holds_e9 q enabled v)
+      (none_first (failing requirement.E9 (holds_e9 q enabled v)) [] (none_first (failing requirement.E8 (holds_e8 c q level back v)) (failing requirement.E9 (holds_e9 q enabled v) ∷ []) h).1).0
 
   standing_nine : (v : View) (class : Class) (backs : List Back) → standing c q text level enabled v ≡ Eligible class backs → holds_e9 q enabled v ≡ true
   standing_nine v class backs h = by (text_class (defs_now c) q text v) h

@@ -173,7 +173,7 @@ no_steps defs (s ∷ steps) h = cc
 -- where nothing is joined back the query's tables are the view's
 pub tables_within : (defs : List TableDef) (dims : List Dimension) (level : Level) (q v : StarQuery) (base : Base)
     → StarFine defs q → StarFine defs v → RowsFine defs v.tables (may_rely level) (rows_at base) → (may_rely level ≡ true → Each (λ d. dimension_holds base d ≡ true) dims)
-    → compatible defs level q v ≡ None → (reach defs dims level q v).failed ≡ 0 → (reach defs dims level q v).back ≡ []
+    → compatible defs level q v ≡ None → (reach defs dims level q v).failed ≡ None → (reach defs dims level q v).back ≡ []
     → (m : ℕ) → has_number q.tables m ≡ true → has_number v.tables m ≡ true
 tables_within defs dims level q v base fine_q fine_v rows_fine relies passes reaches nothing m h =
     sym (ap (λ ss. has_number (reached v.tables ss) m)
@@ -183,7 +183,7 @@ tables_within defs dims level q v base fine_q fine_v rows_fine relies passes rea
 pub concat_means : (defs : List TableDef) (dims : List Dimension) (level : Level) (q v : StarQuery) (then now : Base) (n k : ℕ) (is : List Interval)
     → StarFine defs q → StarFine defs v → RowsFine defs v.tables (may_rely level) (rows_at then) → (may_rely level ≡ true → Each (λ d. dimension_holds then d ≡ true) dims)
     → Each (KindsFine (rows_at then)) (query_aggs q)
-    → compatible defs level q v ≡ None → (reach defs dims level q v).failed ≡ 0 → (reach defs dims level q v).back ≡ [] → computable defs q v ≡ true
+    → compatible defs level q v ≡ None → (reach defs dims level q v).failed ≡ None → (reach defs dims level q v).back ≡ [] → computable defs q v ≡ true
     → v.grouped ≡ true → selects_column v (record { table = n; part = Col k }) ≡ true → has_number q.tables n ≡ true
     → Each (λ m. (m == n) ≡ false → rows_at then m ≡ rows_at now m) q.tables → filter (is_outside k is) (rows_at then n) ≡ filter (is_outside k is) (rows_at now n)
     → in_order q.order (plan_rows.concat_rows defs now q v (record { table = n; part = Col k }) is (stored v then)) ≡ meaning q now

@@ -15,7 +15,7 @@ use Rattle.wh_base.specs.declared.views.ViewState.TheVariants.{Fresh, Partly, St
 use Rattle.wh_base.specs.declared.tokens.Token.{Token}
 use Rattle.def_choice.specs.Choice.{full_standing}
 use Rattle.def_choice.specs.Concat.{concat_holds, fails_e8_alone, is_partly, or_concat, serves_in_part, tracks_table_of}
-use Rattle.def_choice.specs.Eligible.{Eligible, Failing, Standing, asks_freshness, form_failure, holds_e8, holds_e9, lesser_failure, standing}
+use Rattle.def_choice.specs.Eligible.{Eligible, Failing, Standing, asks_freshness, form_failure, holds_e8, holds_e9, earlier_failure, standing}
 use Rattle.def_history.specs.Catalog.{Catalog, View, base_at, base_now, defs_now}
 use Rattle.def_history.specs.Staleness.{content, facts_of, stale_intervals, view_state}
 use Rattle.def_meaning.specs.Joined.{rows_at}
@@ -34,7 +34,9 @@ use Rattle.law_rewrite.proofs.Mixed.{each_has}
 use Rattle.law_rewrite.proofs.Placing.{and_both}
 use Rattle.law_rewrite.proofs.Reached.{at_own}
 use Rattle.law_rewrite.proofs.SameTables.{empty_is}
-use Rattle.law_rewrite.proofs.Standing_law.{content_is, holds_of, lesser_none, others_same, standing_means}
+use Rattle.law_rewrite.proofs.Standing_law.{content_is, holds_of, earlier_none, others_same, standing_means}
+use Rattle.wh_base.specs.declared.views.Requirement.{Requirement}
+use Rattle.wh_base.specs.declared.views.Requirement.TheVariants as requirement
 
 pub was_none : {A : Type 0} (o : Option A) → is_none o ≡ true → o ≡ None
 was_none None e = refl
@@ -56,7 +58,7 @@ module _ (c : Catalog) (level : Level) (asks : asks_freshness level ≡ true) (q
   abbrev form : StarQuery
   form = v.def.query
 
-  abbrev failed : ℕ
+  abbrev failed : Option Requirement
   failed = (reach (defs_now c) c.dimensions level q form).failed
 
   abbrev Goal : Type 0
@@ -74,16 +76,16 @@ module _ (c : Catalog) (level : Level) (asks : asks_freshness level ≡ true) (q
           (and_both (is_none (form_failure c q level v (reach (defs_now c) c.dimensions level q form)) && is_empty (reach (defs_now c) c.dimensions level q form).back)
           (holds_e9 q enabled v && not (holds_e8 c q level (reach (defs_now c) c.dimensions level q form).back v)) two.0).0
 
-      forms : (compatible (defs_now c) level q form ≡ None) × (lesser_failure (failing failed (failed == 0)) (failing 7 (computable (defs_now c) q form)) ≡ None)
+      forms : (compatible (defs_now c) level q form ≡ None) × (earlier_failure failed (failing requirement.E7 (computable (defs_now c) q form)) ≡ None)
       forms =
-          lesser_none (compatible (defs_now c) level q form) (lesser_failure (failing failed (failed == 0)) (failing 7 (computable (defs_now c) q form)))
+          earlier_none (compatible (defs_now c) level q form) (earlier_failure failed (failing requirement.E7 (computable (defs_now c) q form)))
           (was_none (form_failure c q level v (reach (defs_now c) c.dimensions level q form)) passes.0)
 
-      more : (failing failed (failed == 0) ≡ None) × (failing 7 (computable (defs_now c) q form) ≡ None)
-      more = lesser_none (failing failed (failed == 0)) (failing 7 (computable (defs_now c) q form)) forms.1
+      more : (failed ≡ None) × (failing requirement.E7 (computable (defs_now c) q form) ≡ None)
+      more = earlier_none failed (failing requirement.E7 (computable (defs_now c) q form)) forms.1
 
-      reaches : failed ≡ 0
-      reaches = eqb-true failed 0 (holds_of failed (failed == 0) more.0)
+      reaches : failed ≡ None
+      reaches = more.0
 
       nothing : (reach (defs_now c) c.dimensions level q form).back ≡ []
       nothing = empty_is (reach (defs_now c) c.dimensions level q form).back passes.1
@@ -105,7 +107,7 @@ module _ (c : Catalog) (level : Level) (asks : asks_freshness level ≡ true) (q
           ap (λ o. in_order q.order (option_case o [] (λ j. concat_rows (defs_now c) later q form j (stale_intervals c v) (content c v)))) key_is
           ∙ ap (λ es. in_order q.order (concat_rows (defs_now c) later q form (record { table = x.0; part = Col k }) (stale_intervals c v) es)) (content_is c level asks q v p built stars kept)
           ∙ concat_means (defs_now c) c.dimensions level q form at_point later x.0 k (stale_intervals c v) stars.star_q stars.star_v stars.rows_then stars.relies_then stars.kinds_then forms.0 reaches nothing
-          (holds_of 7 (computable (defs_now c) q form) more.1) state.0 (sym (ap (λ o. option_case o false (selects_column form)) key_is) ∙ ours.0) there
+          (holds_of requirement.E7 (computable (defs_now c) q form) more.1) state.0 (sym (ap (λ o. option_case o false (selects_column form)) key_is) ∙ ours.0) there
           (Each-map (λ m. has_number q.tables m ≡ true) Same
           (λ m h. at_own Same m m form.tables (tables_within (defs_now c) c.dimensions level q form at_point stars.star_q stars.star_v stars.rows_then stars.relies_then forms.0 reaches nothing m h)
           (Each-map Same (λ j. m ≡ j → Same m) (λ j l e. subst Same (sym e) l) form.tables (others_same c level asks q v p built stars kept x is unrestricted))) q.tables (each_has q.tables))

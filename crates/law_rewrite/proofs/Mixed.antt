@@ -168,7 +168,7 @@ module _ (defs : List TableDef) (dims : List Dimension) (q v : StarQuery) (then 
   pub partly_means : (n k : ℕ) (is : List Interval) → list_all (λ i. misses q (record { table = n; part = Col k }) i) is ≡ true
       → Each (λ m. (m == n) ≡ false → rows_at then m ≡ rows_at now m) v.tables
       → filter (is_outside k is) (rows_at then n) ≡ filter (is_outside k is) (rows_at now n)
-      → compatible defs level q v ≡ None → (reach defs dims level q v).failed ≡ 0 → computable defs q v ≡ true
+      → compatible defs level q v ≡ None → (reach defs dims level q v).failed ≡ None → computable defs q v ≡ true
       → Each (λ b. theirs b.table ≡ true → (b.table == n) ≡ false) (reach defs dims level q v).back
       → in_order q.order (general_rows defs q v (layout q v (reach defs dims level q v).back) (extended_rows now v (reach defs dims level q v).back (stored v then))) ≡ meaning q now
   partly_means n k is missed others own passes reaches seven apart =

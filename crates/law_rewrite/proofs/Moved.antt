@@ -29,6 +29,7 @@ use Rattle.def_meaning.specs.Meaning.{in_order, meaning}
 use Rattle.def_restrictions.specs.Definition.{tracked_key}
 use Rattle.def_rewriting.specs.Reaching.{reach}
 use Rattle.def_rewriting.specs.Classes.{class_rows}
+use Rattle.wh_base.specs.declared.views.Requirement.TheVariants as requirement
 
 abbrev number : List ℕ → ColumnDef
 number name = record { name = name; kind = Number 9; not_null = true }
@@ -116,10 +117,10 @@ is_partly : view_state catalog view ≡ Partly
 is_partly = refl
 
 -- only E8 fails, since FACT is tracked
-joins_back : reach (defs_now catalog) [] Enforced asked stored_query ≡ record { failed = 0; back = backs }
+joins_back : reach (defs_now catalog) [] Enforced asked stored_query ≡ record { failed = None; back = backs }
 joins_back = refl
 
-fails : general_standing catalog asked Enforced true view ≡ Failing 8
+fails : general_standing catalog asked Enforced true view ≡ Failing requirement.E8
 fails = refl
 
 may_not : concat_holds catalog asked Enforced true view ≡ false

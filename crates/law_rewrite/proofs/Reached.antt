@@ -11,7 +11,7 @@ use Rattle.wh_base.specs.declared.queries.Item.TheVariants as item
 use Rattle.def_meaning.specs.Ranges.{equal_columns, other_end, spread, spread_times}
 use Rattle.def_restrictions.specs.Definition.{selects_column}
 use Rattle.std.proofs.lemmas.Bool.Decides.{Decides-eqb}
-use Rattle.wh_base.specs.Lists.{has_number, is_empty}
+use Rattle.wh_base.specs.Lists.{has_number, is_empty, where_true}
 use Rattle.wh_base.specs.declared.columns.ColRef.{ColRef}
 use Rattle.wh_base.specs.declared.queries.StarQuery.{StarQuery}
 use Rattle.wh_base.specs.declared.statements.Level.{Level}
@@ -22,6 +22,8 @@ use Rattle.def_rewriting.specs.Compatible.{is_table_of}
 use Rattle.def_rewriting.specs.Reaching.{Place, Walk, available, back_alone, back_common, is_declared, item_place, layout, mark_missing, missing, reach, stands_at, view_layout, walk, walk_alone, walk_common, walk_table, wanted}
 use Rattle.law_rewrite.proofs.Groups.{Each, Each-map}
 use Rattle.law_rewrite.proofs.Answering.{Each-turn}
+use Rattle.wh_base.specs.declared.views.Requirement.{Requirement}
+use Rattle.wh_base.specs.declared.views.Requirement.TheVariants as requirement
 
 -- what is available by the view alone stands in its layout
 pub found_any : (p : Place → Bool) (places : List Place) → is_some (option_and_then (λ x. x.column) (find p places)) ≡ true → list_any p places ≡ true
@@ -52,8 +54,8 @@ not_more : {A : Type 0} (xs : List A) (y : A) → xs ++ (y ∷ []) ≡ [] → �
 not_more [] y h = absurd (let e : is_empty (y ∷ []) ≡ true = ap is_empty h in cc)
 not_more (x ∷ xs) y h = absurd (let e : is_empty (x ∷ (xs ++ (y ∷ []))) ≡ true = ap is_empty h in cc)
 
-abbrev pub failed_by : Bool → Bool → ℕ
-failed_by third sixth = cond third 3 (cond sixth 6 0)
+abbrev pub failed_by : Bool → Bool → Option Requirement
+failed_by third sixth = cond third (Some requirement.E3) (where_true sixth requirement.E6)
 
 module _ (defs : List TableDef) (dims : List Dimension) (level : Level) (q v : StarQuery) where
   -- a table of both, of which nothing is missing
@@ -85,14 +87,14 @@ module _ (defs : List TableDef) (dims : List Dimension) (level : Level) (q v : S
   pub nothing_missing : Fine (walk defs dims level q v) → Each Whole q.tables
   nothing_missing h = (walk_fine q.tables (record { back = []; fails_e3 = false; fails_e6 = false }) h).1
 
-  fine_of : reach defs dims level q v ≡ record { failed = 0; back = [] } → Fine (walk defs dims level q v)
+  fine_of : reach defs dims level q v ≡ record { failed = None; back = [] } → Fine (walk defs dims level q v)
   fine_of e =
       let both : ((walk defs dims level q v).fails_e3 ≡ false) × ((walk defs dims level q v).fails_e6 ≡ false) = by (walk defs dims level q v).fails_e3 (walk defs dims level q v).fails_e6 (ap (λ r. r.failed) e) in
       (ap (λ r. r.back) e, both.0, both.1)
     where
-      by : (a b : Bool) → failed_by a b ≡ 0 → (a ≡ false) × (b ≡ false)
-      by true b h = absurd (omega (arith, h))
-      by false true h = absurd (omega (arith, h))
+      by : (a b : Bool) → failed_by a b ≡ None → (a ≡ false) × (b ≡ false)
+      by true b h = cc
+      by false true h = cc
       by false false h = (refl, refl)
 
 -- ---- each wanted column
@@ -158,7 +160,7 @@ Each-and P Q [] h k = tt
 Each-and P Q (x ∷ xs) h k = ((h.0, k.0), Each-and P Q xs h.1 k.1)
 
 -- **where nothing is joined back, all that is wanted stands in the view's layout**
-pub wanted_stand : (defs : List TableDef) (dims : List Dimension) (level : Level) (q v : StarQuery) → reach defs dims level q v ≡ record { failed = 0; back = [] }
+pub wanted_stand : (defs : List TableDef) (dims : List Dimension) (level : Level) (q v : StarQuery) → reach defs dims level q v ≡ record { failed = None; back = [] }
     → Each (λ c. has_number q.tables c.table ≡ true) (wanted q v) → Each (λ c. list_any (stands_at c) (view_layout v) ≡ true) (wanted q v)
 wanted_stand defs dims level q v e own =
     Each-map (λ c. (has_number q.tables c.table ≡ true) × Each (λ n. Unmissed q v n c) q.tables) (λ c. list_any (stands_at c) (view_layout v) ≡ true) one (wanted q v)

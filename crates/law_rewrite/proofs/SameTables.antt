@@ -123,7 +123,7 @@ pub reached_means : (defs : List TableDef) (dims : List Dimension) (level : Leve
     → Stars defs q v base
     → Each (λ c. has_number q.tables c.table ≡ true) (wanted q v)
     → v.grouped ≡ true → q.tables ≡ v.tables → q.edges ≡ v.edges
-    → conditions_implied defs q v ≡ true → reach defs dims level q v ≡ record { failed = 0; back = [] } → computable defs q v ≡ true
+    → conditions_implied defs q v ≡ true → reach defs dims level q v ≡ record { failed = None; back = [] } → computable defs q v ≡ true
     → in_order q.order (class_rows defs base q v None [] General [] (stored v base)) ≡ meaning q base
 reached_means defs dims level q v base s own grouped tables edges five six seven =
     eligible_means defs q v base s

@@ -27,7 +27,7 @@ use Rattle.wh_base.specs.declared.views.ViewEntry.{ViewEntry}
 use Rattle.wh_base.specs.declared.views.ViewState.{ViewState}
 use Rattle.wh_base.specs.declared.views.ViewState.TheVariants.{Fresh, Partly, Stale, Unbuilt}
 use Rattle.wh_base.specs.declared.tokens.Token.{Token}
-use Rattle.def_choice.specs.Eligible.{Eligible, asks_freshness, form_failure, general_class, general_standing, holds_e8, holds_e9, is_fresh_enough, is_selected, item_given, leaves_tracked, lesser_failure, own_text, partial_holds, standing, standing_unless, text_class, time_failure}
+use Rattle.def_choice.specs.Eligible.{Eligible, asks_freshness, form_failure, general_class, general_standing, holds_e8, holds_e9, is_fresh_enough, is_selected, item_given, leaves_tracked, earlier_failure, own_text, partial_holds, standing, standing_unless, text_class, time_failure}
 use Rattle.def_history.specs.Catalog.{Catalog, View, base_at, base_now, defs_now}
 use Rattle.def_history.specs.Staleness.{content, facts_of, known, stale_intervals}
 use Rattle.def_meaning.specs.Joined.{rows_at}
@@ -56,6 +56,8 @@ use Rattle.law_rewrite.proofs.Assembled.{eligible_plan}
 use Rattle.law_rewrite.proofs.Matched.{text_means}
 use Rattle.law_rewrite.proofs.Mixed.{partly_means, stored_same}
 use Rattle.law_rewrite.proofs.Still.{still_means}
+use Rattle.wh_base.specs.declared.views.Requirement.{Requirement}
+use Rattle.wh_base.specs.declared.views.Requirement.TheVariants as requirement
 
 pub none_first : {A : Type 0} (o : Option A) (rest : List (Option A)) → first_some (o ∷ rest) ≡ None → (o ≡ None) × (first_some rest ≡ None)
 none_first None rest h = (refl, h)
@@ -69,18 +71,18 @@ pub none_where : {A : Type 0} (b : Bool) (x : A) → where_true b x ≡ None →
 none_where true x h = cc
 none_where false x h = refl
 
-pub holds_of : (n : ℕ) (b : Bool) → failing n b ≡ None → b ≡ true
-holds_of n true h = refl
-holds_of n false h = cc
+pub holds_of : (e : Requirement) (b : Bool) → failing e b ≡ None → b ≡ true
+holds_of e true h = refl
+holds_of e false h = cc
 
-pub eligible_is : (o : Option ℕ) (class class' : Class) (back back' : List Back) → standing_unless o class back ≡ Eligible class' back' → (o ≡ None) × ((class ≡ class') × (back ≡ back'))
+pub eligible_is : (o : Option Requirement) (class class' : Class) (back back' : List Back) → standing_unless o class back ≡ Eligible class' back' → (o ≡ None) × ((class ≡ class') × (back ≡ back'))
 eligible_is None class class' back back' h = (refl, (cc, cc))
 eligible_is (Some n) class class' back back' h = cc
 
-pub lesser_none : (a b : Option ℕ) → lesser_failure a b ≡ None → (a ≡ None) × (b ≡ None)
-lesser_none None b h = (refl, h)
-lesser_none (Some m) None h = cc
-lesser_none (Some m) (Some n) h = cc
+pub earlier_none : (a b : Option Requirement) → earlier_failure a b ≡ None → (a ≡ None) × (b ≡ None)
+earlier_none None b h = (refl, h)
+earlier_none (Some m) None h = cc
+earlier_none (Some m) (Some n) h = cc
 
 module _ (c : Catalog) (level : Level) (asks : asks_freshness level ≡ true) (q : StarQuery) (v : View) (p : ℕ) (built : v.point ≡ Some p) (stars : StarsKept c level q v p) (kept : ViewKept c v p) where
   abbrev then : Base
@@ -209,19 +211,19 @@ module _ (c : Catalog) (level : Level) (asks : asks_freshness level ≡ true) (q
       two = none_first (form_failure c q level v (reach (defs_now c) c.dimensions level q query)) (time_failure c q level enabled w_back v ∷ []) is.0
 
       e8 : is_fresh_enough c q w_back v ≡ true
-      e8 = asked w_back (holds_of 8 (holds_e8 c q level w_back v) (none_first (failing 8 (holds_e8 c q level w_back v)) (failing 9 (holds_e9 q enabled v) ∷ []) (none_first (time_failure c q level enabled w_back v) [] two.1).0).0)
+      e8 = asked w_back (holds_of requirement.E8 (holds_e8 c q level w_back v) (none_first (failing requirement.E8 (holds_e8 c q level w_back v)) (failing requirement.E9 (holds_e9 q enabled v) ∷ []) (none_first (time_failure c q level enabled w_back v) [] two.1).0).0)
 
-      forms : (compatible (defs_now c) level q query ≡ None) × (lesser_failure (failing (reach (defs_now c) c.dimensions level q query).failed ((reach (defs_now c) c.dimensions level q query).failed == 0)) (failing 7 (computable (defs_now c) q query)) ≡ None)
-      forms = lesser_none (compatible (defs_now c) level q query) (lesser_failure (failing (reach (defs_now c) c.dimensions level q query).failed ((reach (defs_now c) c.dimensions level q query).failed == 0)) (failing 7 (computable (defs_now c) q query))) two.0
+      forms : (compatible (defs_now c) level q query ≡ None) × (earlier_failure (reach (defs_now c) c.dimensions level q query).failed (failing requirement.E7 (computable (defs_now c) q query)) ≡ None)
+      forms = earlier_none (compatible (defs_now c) level q query) (earlier_failure (reach (defs_now c) c.dimensions level q query).failed (failing requirement.E7 (computable (defs_now c) q query))) two.0
 
-      more : (failing (reach (defs_now c) c.dimensions level q query).failed ((reach (defs_now c) c.dimensions level q query).failed == 0) ≡ None) × (failing 7 (computable (defs_now c) q query) ≡ None)
-      more = lesser_none (failing (reach (defs_now c) c.dimensions level q query).failed ((reach (defs_now c) c.dimensions level q query).failed == 0)) (failing 7 (computable (defs_now c) q query)) forms.1
+      more : ((reach (defs_now c) c.dimensions level q query).failed ≡ None) × (failing requirement.E7 (computable (defs_now c) q query) ≡ None)
+      more = earlier_none (reach (defs_now c) c.dimensions level q query).failed (failing requirement.E7 (computable (defs_now c) q query)) forms.1
 
-      reaches : (reach (defs_now c) c.dimensions level q query).failed ≡ 0
-      reaches = eqb-true (reach (defs_now c) c.dimensions level q query).failed 0 (holds_of (reach (defs_now c) c.dimensions level q query).failed ((reach (defs_now c) c.dimensions level q query).failed == 0) more.0)
+      reaches : (reach (defs_now c) c.dimensions level q query).failed ≡ None
+      reaches = more.0
 
       seven : computable (defs_now c) q query ≡ true
-      seven = holds_of 7 (computable (defs_now c) q query) more.1
+      seven = holds_of requirement.E7 (computable (defs_now c) q query) more.1
 
       rows_are : (k : Class) (bs : List Back) → general_class w_back ≡ k → w_back ≡ bs
           → class_rows (defs_now c) now q query (tracked_key v.def) (stale_intervals c v) k bs (content c v) ≡ general_rows (defs_now c) q query (layout q query w_back) (extended_rows now query w_back (content c v))
@@ -251,7 +253,7 @@ module _ (c : Catalog) (level : Level) (asks : asks_freshness level ≡ true) (q
   text_plan enabled same given passes =
       ap (λ es. in_order q.order (text_rows (defs_now c) q query es)) content_is
       ∙ text_means (defs_now c) q query then same given stars.star_v.selected (may_rely level) stars.rows_then stars.kinds_then
-      ∙ by (current [] (asked [] (holds_of 8 (holds_e8 c q level [] v) (none_first (failing 8 (holds_e8 c q level [] v)) (failing 9 (holds_e9 q enabled v) ∷ []) passes).0)))
+      ∙ by (current [] (asked [] (holds_of requirement.E8 (holds_e8 c q level [] v) (none_first (failing requirement.E8 (holds_e8 c q level [] v)) (failing requirement.E9 (holds_e9 q enabled v) ∷ []) passes).0)))
     where
       by : Current [] → meaning q then ≡ meaning q now
       by (AllSame rows_same) = ap (λ es. in_order q.order (map (λ (e : ViewEntry). e.row) es)) (stored_same q then now (subst (Each (λ n. rows_at then n ≡ rows_at now n)) (sym same.tables) rows_same))

@@ -48,7 +48,7 @@ PlansMean =
     (defs : List TableDef) (dims : List Dimension) (level : Level) (q v : StarQuery) (base : Base) (key : Option ColRef) (stale : List Interval)
     → StarFine defs q → StarFine defs v → RowsFine defs v.tables (may_rely level) (rows_at base) → (may_rely level ≡ true → Each (λ d. dimension_holds base d ≡ true) dims)
     → Each (KindsFine (rows_at base)) (query_aggs q)
-    → compatible defs level q v ≡ None → (reach defs dims level q v).failed ≡ 0 → computable defs q v ≡ true
+    → compatible defs level q v ≡ None → (reach defs dims level q v).failed ≡ None → computable defs q v ≡ true
     → in_order q.order (class_rows defs base q v key stale JoinBack (reach defs dims level q v).back (stored v base)) ≡ meaning q base
 
 -- **A query whose interval of a key misses certain intervals means the same over rows that are the same outside of these.** The other tables of the query have the same rows.
@@ -76,7 +76,7 @@ ConcatMeans =
     (defs : List TableDef) (dims : List Dimension) (level : Level) (q v : StarQuery) (then now : Base) (n k : ℕ) (is : List Interval)
     → StarFine defs q → StarFine defs v → RowsFine defs v.tables (may_rely level) (rows_at then) → (may_rely level ≡ true → Each (λ d. dimension_holds then d ≡ true) dims)
     → Each (KindsFine (rows_at then)) (query_aggs q)
-    → compatible defs level q v ≡ None → (reach defs dims level q v).failed ≡ 0 → (reach defs dims level q v).back ≡ [] → computable defs q v ≡ true
+    → compatible defs level q v ≡ None → (reach defs dims level q v).failed ≡ None → (reach defs dims level q v).back ≡ [] → computable defs q v ≡ true
     → v.grouped ≡ true → selects_column v (record { table = n; part = Col k }) ≡ true → has_number q.tables n ≡ true
     → Each (λ m. (m == n) ≡ false → rows_at then m ≡ rows_at now m) q.tables → filter (is_outside k is) (rows_at then n) ≡ filter (is_outside k is) (rows_at now n)
     → in_order q.order (concat_rows defs now q v (record { table = n; part = Col k }) is (stored v then)) ≡ meaning q now

@@ -3,7 +3,7 @@ use crate::seq::Seq;
 use crate::statements::Method;
 use crate::txt::Txt;
 use crate::values::{Interval, Rows};
-use crate::views::{Class, Verdict, ViewState};
+use crate::views::{Class, Requirement, Verdict, ViewState};
 
 /// What there may be too many of.
 #[derive(Clone, Copy)]
@@ -15,22 +15,43 @@ pub enum Counted {
     Partitions,
 }
 
-/// A restriction with the names that it prints, empty where it prints none.
+/// A restriction, as it prints.
 #[derive(Drop)]
 pub struct Restricted {
     pub code: Code,
-    pub table: Txt,
-    pub column: Txt,
+    pub place: Place,
 }
 
-/// The codes of the restrictions of a refresh.
+/// What a restriction names: nothing but the view itself, a table, or a column of a table.
+#[derive(Drop)]
+pub enum Place {
+    View,
+    Table(Txt),
+    Column(Txt, Txt),
+}
+
+/// The codes of the restrictions of a refresh: F by its log, P by partitions.
 #[derive(Clone, Copy)]
 pub enum Code {
-    F(u32),
-    P(u32),
+    F1,
+    F2,
+    F3,
+    F4,
+    F5,
+    F6,
+    F7,
+    F8,
+    F9,
+    F10,
+    F11,
+    F12,
+    F13,
+    P1,
+    P2,
+    P3,
 }
 
-/// Why a command is refused: one variant for each code, with its details. README and docs/refusals.md have the codes.
+/// Why a command is refused: one variant for each code, with its details. docs/refusals.md has the codes.
 #[derive(Drop)]
 pub enum Refusal {
     NameTaken(Txt),
@@ -167,11 +188,12 @@ pub struct ShownLog {
     pub rows: Seq<LogRow>,
 }
 
-/// Why a name of EXPLAIN MVIEW says N.
+/// Why a name of EXPLAIN MVIEW says N: a restriction of its refresh, a requirement of rewrite that the view can't meet, or that
+/// the view is over another view.
 #[derive(Drop)]
 pub enum Reason {
     Refresh(Restricted),
-    Rewrite(u32),
+    Rewrite(Requirement),
     Nested,
 }
 
