@@ -1,17 +1,17 @@
-ghost use Rattle.std.specs.Prelude.{◌≡◌, ◌++◌, ◌∷◌, List, OnOk, [], codes, decimal, length, map, ℕ, ◌<◌, slice_get, Some, zip};
+ghost use Rattle.std.specs.Prelude.{◌≡◌, ◌++◌, ◌∷◌, List, OnOk, [], decimal, length, map, ℕ, ◌<◌, slice_get, Some, zip};
 ghost use Rattle.wh_base.specs.Lists.{option_case};
 ghost use Rattle.wh_base.specs.Values.{value_text};
-ghost use Rattle.def_transcript.specs.Texts.{bound_text, broken_text, class_text, explain_line, explain_names, interval_text, lines_after, lines_text, list_line_text, log_row_text, number_field, op_text, reason_text, refreshed_text, side_text, verdict_text, view_line_text};
+ghost use Rattle.def_transcript.specs.Texts.{bound_text, broken_text, explain_line, explain_names, interval_text, lines_after, lines_text, list_line_text, log_row_text, number_field, op_text, reason_text, refreshed_text, side_text, verdict_text, view_line_text};
 
 use crate::fields::{Printed, Versioned, push_lines, push_lines_in, push_value, push_values};
-use crate::plans::{class_text, method_text};
+use crate::plans::{method_text, requirement_text, serving_text};
 use crate::words::{push_number, push_printed};
 use itoa::Integer;
 use std::alloc::AllocError;
 use wh_base::logs::{LogOp, LogRow, LogSide};
 use wh_base::replies::{Broken, ListLine, Reason, Refreshed, Reply, ViewLine};
 use wh_base::values::{Interval, Value, Version};
-use wh_base::views::{Class, Verdict};
+use wh_base::views::Verdict;
 
 /// What a commit did with a view.
 impl Printed for Refreshed {
@@ -156,8 +156,8 @@ impl Printed for Reason {
                 restriction.push_text(out)?;
                 Ok(())
             }
-            Reason::Rewrite(number) => {
-                push_failed(out, *number)?;
+            Reason::Rewrite(requirement) => {
+                out.extend_from_slice(requirement_text(*requirement).as_bytes())?;
                 Ok(())
             }
             Reason::Nested => {
@@ -168,39 +168,12 @@ impl Printed for Reason {
     }
 }
 
-/// The condition of a rewrite that fails.
-fn push_failed(out: &mut Vec<u8>, number: u32) -> Result<(), AllocError>
-    ensures { OnOk result (out.new.items ≡ out.old.items ++ (codes "E" ++ decimal number)) }
-{
-    out.push(b'E')?;
-    push_number(out, number)?;
-    Ok(())
-}
-
-/// A class, or the condition that fails.
-fn push_class(out: &mut Vec<u8>, class: Option<Class>, failed: u32) -> Result<(), AllocError>
-    ensures { OnOk result (out.new.items
-        ≡ out.old.items ++ option_case class (codes "E" ++ decimal failed) class_text) }
-{
-    match class {
-        Some(class) => {
-            out.extend_from_slice(class_text(class).as_bytes())?;
-            Ok(())
-        }
-        None => {
-            push_failed(out, failed)?;
-            Ok(())
-        }
-    }
-}
-
 impl Printed for Verdict {
     ghost text = { verdict_text };
 
     fn push_text(&self, out: &mut Vec<u8>) -> Result<(), AllocError> {
         out.extend_from_slice(self.view.as_slice())?;
-        out.push(b'|')?;
-        push_class(out, self.class, self.failed)?;
+        push_field(out, serving_text(self.serving))?;
         Ok(())
     }
 }
