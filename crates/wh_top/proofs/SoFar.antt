@@ -14,7 +14,8 @@ use Rattle.def_journal.specs.Journal.{given_by, is_legal, of_session, reply_to, 
 use Rattle.def_output.specs.Reads.{reads_of}
 use Rattle.wh_order.specs.Laws.{IsNext}
 use Rattle.wh_order.proofs.Journals.{next_part}
-use Rattle.wh_session.specs.Run.{Run, Takes, begun}
+use Rattle.wh_session.specs.Run.{AreOverTables, Run, Takes, begun}
+use Rattle.wh_session.proofs.Scripted.{over_tables}
 use Rattle.wh_top.specs.Running.{AreAsFar, CountedSoFar, HasNext, IsAsFar, IsRunnable, IsTaken, ahead_of, most_sessions, place_of, read_by}
 use Rattle.wh_top.proofs.Apart.{apart_of}
 use Rattle.wh_top.proofs.Counts.{counted_next}
@@ -90,6 +91,21 @@ within_sessions n s (t ∷ ss) h found = by (t.session == n) found (within_sessi
     by true here later = subst (λ u. u.session ≤ most_sessions) (some here) first
     by false here later = later here
 
+-- what holds of each section holds of the one that is found
+found_among : (P : Section → Type 0) (n : ℕ) (s : Section) (ss : List Section) → All P ss → find (λ t. t.session == n) ss ≡ Some s → P s
+found_among P n s [] h found = none found
+  where
+    none : find (λ t. t.session == n) [] ≡ Some s → P s
+    none e = cc
+found_among P n s (t ∷ ss) h found = by (t.session == n) found (found_among P n s ss (λ k d within. h (suc k) d (omega (arith, within))))
+  where
+    some : Some t ≡ Some s → t ≡ s
+    some e = cc
+
+    by : (b : Bool) → cond b (Some t) (find (λ u. u.session == n) ss) ≡ Some s → (find (λ u. u.session == n) ss ≡ Some s → P s) → P s
+    by true here later = subst P (some here) (h 0 t (omega arith))
+    by false here later = later here
+
 pub entry_within : (script : Script) (front rest : List Entry) (e : Entry) → IsRunnable script → is_legal script (front ++ e ∷ rest) ≡ true → e.session ≤ most_sessions
 entry_within script front rest e runnable legal =
     let next : IsNext script front e = next_part script front rest e runnable.no_jobs legal in
@@ -100,6 +116,7 @@ next_so_far version script front rest e trace runs old reads runnable legal far 
     let next : IsNext script front e = next_part script front rest e runnable.no_jobs legal in
     let own = found_own e.session next.section script.sections next.found in
     let run = run_found version script front e.session next.section script.sections runs far.far next.found in
+    let over : AreOverTables (trace_of script front) next.section = found_among (AreOverTables (trace_of script front)) e.session next.section script.sections (over_tables script front runnable.built) next.found in
     subst (HasNext e.session runs) (sym far.trace_is) (record {
       run = run.0;
       there = run.1;
@@ -107,6 +124,7 @@ next_so_far version script front rest e trace runs old reads runnable legal far 
       later = drop (suc (length (of_session e.session front))) (section_entries next.section);
       left_is = left_next version script front e run.0 next own run.2;
       goes_on = run.2.goes_on;
+      over_tables = subst (AreOverTables (trace_of script front)) (sym run.2.section_is) over;
     })
 
 some_run : (x y : Run) → Some x ≡ Some y → x ≡ y

@@ -12,7 +12,7 @@ use Rattle.def_journal.specs.Jobs.{accepted_submits}
 use Rattle.def_journal.specs.Journal.{of_session, order_of, replies_of, session_numbers, state_of, trace_of}
 use Rattle.def_output.specs.Reads.{reads_of}
 use Rattle.wh_order.specs.Laws.{number_twice, session_told, told_in, told_text}
-use Rattle.wh_session.specs.Run.{CanRun, Continues, Run, Takes}
+use Rattle.wh_session.specs.Run.{AreOverTables, CanRun, Continues, Run, Takes}
 use Rattle.wh_session.specs.Tally.{tally_of}
 use Rattle.wh_session.specs.declared.tally.Tally.{Tally}
 
@@ -25,7 +25,7 @@ pub record IsRunnable (script : Script) : Type 0 where
   pub built : script_is_built script ≡ true
   pub sections : All CanRun script.sections
   pub differ : number_twice (session_numbers script) ≡ None
-  pub within : All (λ n. n ≤ most_sessions) (session_numbers script)
+  pub within : All (λ s. s.session ≤ most_sessions) script.sections
   pub no_jobs : accepted_submits script ≡ []
 
 -- The session has taken its parts in this front of a journal, and its text has their replies in this version.
@@ -71,7 +71,8 @@ abbrev pub place_of : ℕ → List Run → ℕ
 place_of n [] = 0
 place_of n (r ∷ rs) = cond (r.section.session == n) 0 (suc (place_of n rs))
 
--- The session with the number n is among these, a part of it is left, and the trace goes on from its last part.
+-- The session with the number n is among these, a part of it is left, the trace goes on from its last part, and the session creates no
+-- view over one that the trace creates.
 pub record HasNext (n : ℕ) (runs : List Run) (trace : List Event) : Type 0 where
   pub run : Run
   pub there : slice_get runs (place_of n runs) ≡ Some run
@@ -79,6 +80,7 @@ pub record HasNext (n : ℕ) (runs : List Run) (trace : List Event) : Type 0 whe
   pub later : List Entry
   pub left_is : run.left ≡ entry ∷ later
   pub goes_on : Continues run trace
+  pub over_tables : AreOverTables trace run.section
 
 -- Of these sessions the one with the number n alone has taken its next part, and its counter alone rose: by the base rows
 -- that were read for that part.
