@@ -1,5 +1,5 @@
 -- A script that is read can be run.
-use Rattle.std.proofs.Common.{◌≡◌, ap, refl, subst, sym, arith, ℕ, suc, zero, ◌<◌, ◌≤◌, ◌==◌, ◌||◌, ◌&&◌, true, List, [], ◌∷◌, length, map, get_or}
+use Rattle.std.proofs.Common.{◌≡◌, ap, refl, subst, sym, arith, ℕ, suc, zero, ◌≤◌, ◌==◌, ◌||◌, ◌&&◌, true, List, [], ◌∷◌, map}
 use Rattle.std.specs.List.{All, AllByRecursion, AllPairs, list_all}
 use Rattle.std.proofs.lemmas.Bool.{and_from, and_parts}
 use Rattle.std.proofs.lemmas.List.Elements.{All-from_recursion}
@@ -35,10 +35,10 @@ all_built [] h = tt
 all_built (s ∷ []) h = (one_built s h, tt)
 all_built (s ∷ t ∷ more) h = each_built (s ∷ t ∷ more) (and_parts (is_built forms.Session) (list_all section_is_built (s ∷ t ∷ more)) h).1
 
-numbers_within : (ss : List Section) (k d : ℕ) → k < length (map (λ s. s.session) ss) → All (λ s. s.session ≤ most_sessions) ss → get_or (map (λ s. s.session) ss) k d ≤ most_sessions
-numbers_within [] k d within h = absurd (omega (arith, within))
-numbers_within (s ∷ ss) zero d within h = h 0 s (omega arith)
-numbers_within (s ∷ ss) (suc k) d within h = numbers_within ss k d (omega (arith, within)) (λ j t inside. h (suc j) t (omega (arith, inside)))
+within_numbers : (ss : List Section) → All (λ n. n ≤ most_sessions) (map (λ s. s.session) ss) → All (λ s. s.session ≤ most_sessions) ss
+within_numbers [] h k d within = absurd (omega (arith, within))
+within_numbers (s ∷ ss) h zero d within = h 0 0 (omega arith)
+within_numbers (s ∷ ss) h (suc k) d within = within_numbers ss (λ j e inside. h (suc j) e (omega (arith, inside))) k d (omega (arith, within))
 
 -- what is built of a script: its sections, and beside them what isn't told by one section
 built_sections : (script : Script) → script_is_built script ≡ true → sections_are_built script.sections ≡ true
@@ -81,7 +81,7 @@ runnable script built read ascend low =
       built = built;
       sections = can_run script built read;
       differ = once_from_ascent script ascend;
-      within = λ k d within. numbers_within script.sections k d within low;
+      within = low;
       no_jobs = no_jobs script built;
     }
 
@@ -95,6 +95,6 @@ three_sessions script built read numbers =
       built = built;
       sections = can_run script built read;
       differ = ap number_twice numbers;
-      within = subst (All (λ n. n ≤ most_sessions)) (sym numbers) few_numbers;
+      within = within_numbers script.sections (subst (All (λ n. n ≤ most_sessions)) (sym numbers) few_numbers);
       no_jobs = no_jobs script built;
     }

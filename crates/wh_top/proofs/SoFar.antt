@@ -73,24 +73,6 @@ start_so_far version script runs reads is many = subst (λ rs. SoFar version scr
 
 -- ---- the next part
 
--- the number of the entry is at most the greatest
-within_sessions : (n : ℕ) (s : Section) (ss : List Section) → All (λ m. m ≤ most_sessions) (map (λ t. t.session) ss) → find (λ t. t.session == n) ss ≡ Some s → s.session ≤ most_sessions
-within_sessions n s [] h found = none found
-  where
-    none : find (λ t. t.session == n) [] ≡ Some s → s.session ≤ most_sessions
-    none e = cc
-within_sessions n s (t ∷ ss) h found = by (t.session == n) found (within_sessions n s ss (λ k d within. h (suc k) d (omega (arith, within))))
-  where
-    first : t.session ≤ most_sessions
-    first = h 0 0 (omega arith)
-
-    some : Some t ≡ Some s → t ≡ s
-    some e = cc
-
-    by : (b : Bool) → cond b (Some t) (find (λ u. u.session == n) ss) ≡ Some s → (find (λ u. u.session == n) ss ≡ Some s → s.session ≤ most_sessions) → s.session ≤ most_sessions
-    by true here later = subst (λ u. u.session ≤ most_sessions) (some here) first
-    by false here later = later here
-
 -- what holds of each section holds of the one that is found
 found_among : (P : Section → Type 0) (n : ℕ) (s : Section) (ss : List Section) → All P ss → find (λ t. t.session == n) ss ≡ Some s → P s
 found_among P n s [] h found = none found
@@ -106,10 +88,11 @@ found_among P n s (t ∷ ss) h found = by (t.session == n) found (found_among P 
     by true here later = subst P (some here) (h 0 t (omega arith))
     by false here later = later here
 
+-- the number of the entry is at most the greatest
 pub entry_within : (script : Script) (front rest : List Entry) (e : Entry) → IsRunnable script → is_legal script (front ++ e ∷ rest) ≡ true → e.session ≤ most_sessions
 entry_within script front rest e runnable legal =
     let next : IsNext script front e = next_part script front rest e runnable.no_jobs legal in
-    subst (λ n. n ≤ most_sessions) (found_own e.session next.section script.sections next.found) (within_sessions e.session next.section script.sections runnable.within next.found)
+    subst (λ n. n ≤ most_sessions) (found_own e.session next.section script.sections next.found) (found_among (λ t. t.session ≤ most_sessions) e.session next.section script.sections runnable.within next.found)
 
 pub next_so_far : (version : Version) (script : Script) (front rest : List Entry) (e : Entry) (trace : List Event) (runs : List Run) (old reads : List ℕ) → IsRunnable script → is_legal script (front ++ e ∷ rest) ≡ true → SoFar version script front trace runs old reads → HasNext e.session runs trace
 next_so_far version script front rest e trace runs old reads runnable legal far =
