@@ -6,7 +6,7 @@ ghost use Rattle.wh_base.specs.declared.queries.RawQuery.{RawQuery};
 ghost use Rattle.wh_base.specs.declared.tokens.Token.{Token};
 ghost use Rattle.wh_lex.specs.Lex.{tokens_of};
 
-/// Each query that the grammar gives for such tokens, and so for those of a text, can be written.
+/// Each query that the grammar gives for tokens with texts that tokens may have, and so for the tokens of a text, can be written.
 pub fn what_reads_can_be_written()
     ensures spelled { (tokens rest : List Token) (query : RawQuery)
         → Each IsSpelled tokens → select tokens ≡ Some (query, rest) → IsWritten query }
