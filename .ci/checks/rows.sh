@@ -1,6 +1,7 @@
 #!/usr/bin/env bash
 # The worked rows, where they lie beside the repository: each script must answer as its row says.
-stage=4 # the rows that can be run by now
+stage=4 # the rows that can be run by now,
+dates=17 # and of those of dates, which are built ahead, the ones without partitions and without `check`
 cd "$(dirname "${BASH_SOURCE[0]}")/../.." || exit 1
 rows=../shared/rows/run_rows.py
 if [ ! -e "$rows" ]; then
@@ -12,4 +13,4 @@ if [ -z "$program" ]; then
   echo "rows: skipped, there is no program yet"
   exit 0
 fi
-python3 "$rows" --program "$program" --stage "$stage"
+python3 "$rows" --program "$program" --stage "$stage" --plus "$dates" r01 r02 r03 r04 r17-no-such-day r17-version-1

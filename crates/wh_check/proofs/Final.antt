@@ -72,7 +72,7 @@ row_by t old vs key =
     first_some (
     row_refusal t.def vs
     ∷ where_true (option_case (option_map (value_at vs) key) false (λ v. is_none (part_of_key t v))) (NoPartition t.def.name)
-    ∷ where_true (option_case old false (λ ws. not (mark_by t key ws == mark_by t key vs))) (RowMovement t.def.name)
+    ∷ where_true (option_case old false (λ ws. not (mark_by t key ws == mark_by t key vs)) && not t.def.movement) (RowMovement t.def.name)
     ∷ [])
 
 row_plain : (t : Table) (old : Option (List Value)) (vs : List Value) → row_by t old vs None ≡ row_refusal t.def vs

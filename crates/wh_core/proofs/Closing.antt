@@ -5,9 +5,9 @@ use Rattle.wh_base.specs.declared.statements.Command.{Command}
 use Rattle.wh_base.specs.declared.statements.Event.{Event}
 use Rattle.wh_base.specs.declared.statements.Id.{Id}
 use Rattle.def_built.specs.Commands.{command_is_built}
-use Rattle.def_journal.specs.Journal.{event_of, reply_to}
+use Rattle.def_journal.specs.Journal.{commands_of, event_of, reply_to}
 use Rattle.wh_core.proofs.Events.{After, IsAccepted}
-use Rattle.wh_core.specs.Calls.{install_of}
+use Rattle.wh_core.specs.Calls.{IsOverTables, install_of}
 use Rattle.wh_constraints.specs.Constraints.{AreRight}
 use Rattle.wh_core.specs.Kept.{IsCore, IsIndexed}
 use Rattle.wh_keys.specs.Coded.{Held}
@@ -20,6 +20,9 @@ accepts id command k is built read = record { built = ap command_is_built (sym i
 
 pub accepts_install : (id : Id) (command k : Command) → command ≡ k → IsTrue (command_is_built command) → IsRead k → IsAccepted (install_of id k)
 accepts_install id command k is built read = record { built = ap command_is_built (sym is) ∙ built; read = read }
+
+pub stands_apart : (trace now : List Event) (command k : Command) → trace ≡ now → command ≡ k → IsOverTables (commands_of now) command → IsOverTables (commands_of trace) k
+stands_apart trace now command k same is h = subst (IsOverTables (commands_of trace)) is (subst (λ t. IsOverTables (commands_of t) command) (sym same) h)
 
 -- the journal with one entry more, and the indexes
 pub closes : (trace before items : List Event) (note e : Event) (scn : ℕ) (tables : List Stored) (views : AllKept) (kept begun room : ℕ) (answer : Reply) (keys : Held)

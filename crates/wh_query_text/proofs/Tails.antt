@@ -15,7 +15,7 @@ abbrev pub changed : {X Y : Type 0} → (X → Y) → Option (X × List Token) �
 changed f o = option_map (λ p. (f p.0, p.1)) o
 
 -- behind a first rule
-behind : {A X Y : Type 0} (f : X → Y) (o : Option (A × List Token)) (k : A × List Token → Option (Y × List Token)) (m : A × List Token → Option (X × List Token)) → ((p : A × List Token) → k p ≡ changed f (m p)) → option_case o None k ≡ changed f (option_case o None m)
+pub behind : {A X Y : Type 0} (f : X → Y) (o : Option (A × List Token)) (k : A × List Token → Option (Y × List Token)) (m : A × List Token → Option (X × List Token)) → ((p : A × List Token) → k p ≡ changed f (m p)) → option_case o None k ≡ changed f (option_case o None m)
 behind f None k m h = refl
 behind f (Some p) k m h = h p
 

@@ -1,10 +1,10 @@
 ghost use Rattle.std.specs.Prelude.{◌≡◌, ◌≤◌, ◌+◌, ◌^◌, [], ◌∷◌, ◌++◌, IfOk, OnErr, OnOk, IsTrue, Some};
 ghost use Rattle.def_built.specs.Commands.{command_is_built};
-ghost use Rattle.def_journal.specs.Journal.{event_of, reply_to};
+ghost use Rattle.def_journal.specs.Journal.{commands_of, event_of, reply_to};
 ghost use Rattle.def_output.specs.Reads.{read_of};
 ghost use Rattle.wh_answer.specs.Answered.{most_reads};
 ghost use Rattle.wh_base.specs.Lists.{option_case};
-ghost use Rattle.wh_core.specs.Calls.{install_of};
+ghost use Rattle.wh_core.specs.Calls.{IsOverTables, install_of};
 ghost use Rattle.wh_session.specs.Parts.{IsFinished, IsFirst, IsPending, IsStarted};
 ghost use Rattle.wh_session.specs.Run.{Grows};
 ghost use Rattle.wh_view_law.specs.Read.{IsRead};
@@ -50,6 +50,7 @@ pub fn start<L>(
     reads: &mut Reads<L>,
 ) -> Result<Option<Pending>, AllocError>
     requires built { IsTrue (command_is_built command) }
+    requires over_tables { IsOverTables (commands_of core.old) command }
     requires read { IsRead command }
     ensures trace { OnOk result (core.new ≡ core.old ++ event_of id command ∷ []) }
     ensures started { IfOk result (λ pending. IsStarted core.old core.new id command pending telling.old telling.new reads.old reads.new) }
@@ -100,6 +101,7 @@ fn first_part<L>(
     reads: &mut Reads<L>,
 ) -> Result<Part, AllocError>
     requires built { IsTrue (command_is_built command.now) }
+    requires over_tables { IsOverTables (commands_of core.old) command.now }
     requires read { IsRead command.now }
     ensures trace { OnOk result (core.new ≡ core.old ++ event_of id command.now ∷ []) }
     ensures first { IfOk result (λ part. IsFirst core.old core.new id command.now part reads.old reads.new) }
@@ -118,6 +120,8 @@ fn first_part<L>(
             let part = statement_part(alloc, core, id, command, statement, reads)?;
             Ok(part)
         }
+        // No command of a form that is built hands a refresh to the workers.
+        Command::Submit(_) => unreachable!(),
     }
 }
 
@@ -133,6 +137,7 @@ fn statement_part<L>(
 ) -> Result<Part, AllocError>
     requires command { command.now ≡ Command.Other statement.now }
     requires built { IsTrue (command_is_built command.now) }
+    requires over_tables { IsOverTables (commands_of core.old) command.now }
     requires read { IsRead command.now }
     requires room { reads.old ≤ 2 ^ 63 }
     ensures trace { OnOk result (core.new ≡ core.old ++ event_of id command.now ∷ []) }

@@ -1,4 +1,5 @@
 use Rattle.std.proofs.Common.{◌∙◌, ap, subst, sym}
+use Rattle.wh_base.specs.declared.values.Version.TheVariants.{Two}
 use Rattle.def_output.specs.Generator.{generated}
 use Rattle.wh_top.specs.Running.{IsRunnable, command_count, total}
 use Rattle.wh_top.proofs.Lines.{summary_ran}
@@ -17,7 +18,7 @@ returns-clause-summary g c =
     let n = c.args.sales in
     let law = c.generated_script_runs.ensures in
     let runnable = subst IsRunnable (sym c.in_ok-script.ensures) (three_sessions (generated n) (law.built n) (law.reads n) (law.sessions n)) in
-    summary_ran n c.in_ok-script.script c.in_ok-performed.performed.journal c.in_ok-performed.performed.sessions.items c.in_ok-commands.commands c.in_ok-performed.performed.scn c.in_ok-tally.tally c.in_ok-text.text.items
+    summary_ran Two n c.in_ok-script.script c.in_ok-performed.performed.journal c.in_ok-performed.performed.sessions.items c.in_ok-commands.commands c.in_ok-performed.performed.scn c.in_ok-tally.tally c.in_ok-text.text.items
     c.in_ok-script.ensures runnable c.in_ok-performed.ensures.ran
     (c.in_ok-commands.ensures ∙ ap command_count c.as_slice.ensures.items)
     (c.in_ok-tally.ensures ∙ ap total c.as_slice-2.ensures.value)
