@@ -127,6 +127,12 @@ knows_more v w c old new e k m =
           ∙ sym (λ i. list_any (has_text (by i)) (upon i));
     }
 
+pub is-more : (v : ViewNames) (c : Command) (made over by upon : List (List ℕ)) (nest : Bool) → by ≡ created_by c → upon ≡ created_over c → HasMore v.made by made → HasMore v.over upon over → nest ≡ (v.nest || nests_with v c) → IsMore v c (record { made = made; over = over; nest = nest })
+is-more v c made over by upon nest e f h k n =
+    record { by = subst (λ ns. HasMore v.made ns made) e h; upon = subst (λ ns. HasMore v.over ns over) f k; nested = n }
+
+pub ruleset mores = (is-more)
+
 -- ---- sections
 
 knows_along : (v : ViewNames) (xs ys : List Section) → commands_of xs ≡ commands_of ys → Knows v xs → Knows v ys
