@@ -3,10 +3,10 @@ use Rattle.std.proofs.Common.{◌≡◌, ◌∙◌, ℕ, List, [], ◌∷◌, �
 use Rattle.std.proofs.Math.Bool.{or-false, or_assoc}
 use Rattle.std.proofs.lemmas.Grind.{flat_map-append}
 use Rattle.std.proofs.lemmas.List.Folds.{list_any-append}
-use Rattle.std.specs.Cmp.Lexicographic.{nat_list_eq_equiv}
+use Rattle.std.specs.Cmp.Lexicographic.{nat_list_eq_equiv, pointwise}
 use Rattle.std.specs.HashSet.{HashSet, Updates}
 use Rattle.std.specs.List.{list_any}
-use Rattle.std.specs.Prelude.{flat_map, not, option_map, option_to_list}
+use Rattle.std.specs.Prelude.{flat_map, nat_eq, not, option_map, option_to_list}
 use Rattle.def_built.specs.Form.{created_by, created_over, views_are_built}
 use Rattle.def_built.specs.Forms.{is_built}
 use Rattle.def_built.specs.declared.forms.Form.TheVariants as forms
@@ -41,7 +41,7 @@ same_text-swap a b = nat_list_eq_equiv.symm a b
 pub more-none : (names : List (List ℕ)) → HasMore names [] names
 more-none names = record { has = λ n. sym (or-false (has_text names n)) }
 
-pub more-one : {S : Type 0} (old new : HashSet (List ℕ) S) (name : List ℕ) → Updates same_text old new name true → HasMore old.keys (name ∷ []) new.keys
+pub more-one : {S : Type 0} (old new : HashSet (List ℕ) S) (name : List ℕ) → Updates (pointwise nat_eq) old new name true → HasMore old.keys (name ∷ []) new.keys
 more-one old new name updates =
     record {
       has = λ n.
