@@ -142,8 +142,8 @@ module _ (trace : List Event) (v : View) (p : ℕ) (built : v.point ≡ Some p) 
   defs_are : table_defs v.def ≡ map with_def tables
   defs_are = ap (λ (defs : List TableDef). zip tables defs) k.defined ∙ zip_map (def_at k.tables) tables
 
-  still : (n : ℕ) → moved (known c v (with_def n)) ≡ false → rows_at (base_at c p) n ≡ rows_at (base_now c) n
-  still n e = sym (unmoved trace v p (with_def n) built e)
+  unchanged : (n : ℕ) → moved (known c v (with_def n)) ≡ false → rows_at (base_at c p) n ≡ rows_at (base_now c) n
+  unchanged n e = sym (unmoved trace v p (with_def n) built e)
 
   fresh_same : is_fresh (facts_of c v) ≡ true → tuples v.def.query (base_at c p) ≡ tuples v.def.query (base_now c)
   fresh_same e =
@@ -151,7 +151,7 @@ module _ (trace : List Event) (v : View) (p : ℕ) (built : v.point ≡ Some p) 
       let each : Each (λ n. moved (known c v (with_def n)) ≡ false) tables = each_unmap (λ t. moved (known c v t) ≡ false) with_def tables (subst (Each (λ t. moved (known c v t) ≡ false)) defs_are none) in
       ap (λ rows. filter (tuple_true v.def.query) (product rows))
       (map_same (rows_at (base_at c p)) (rows_at (base_now c)) tables
-      (each_weaker (λ n. moved (known c v (with_def n)) ≡ false) (λ n. rows_at (base_at c p) n ≡ rows_at (base_now c) n) still tables each))
+      (each_weaker (λ n. moved (known c v (with_def n)) ≡ false) (λ n. rows_at (base_at c p) n ≡ rows_at (base_now c) n) unchanged tables each))
 
   -- the tables but for the tracked one
   others_still : (t : ℕ × TableDef) → tracked v.def ≡ Some t → first_part_restriction (facts_of c v) ≡ None → Each (λ n. (n == t.0) ≡ false → rows_at (base_at c p) n ≡ rows_at (base_now c) n) tables
@@ -166,7 +166,7 @@ module _ (trace : List Event) (v : View) (p : ℕ) (built : v.point ≡ Some p) 
       let each : Each (λ n. check_p3 v.def (known c v (with_def n)) ≡ None) tables =
       each_unmap (λ x. check_p3 v.def (known c v x) ≡ None) with_def tables (subst (Each (λ x. check_p3 v.def (known c v x) ≡ None)) defs_are known_all) in
       each_weaker (λ n. check_p3 v.def (known c v (with_def n)) ≡ None) (λ n. (n == t.0) ≡ false → rows_at (base_at c p) n ≡ rows_at (base_now c) n)
-      (λ n passes apart. still n (unmoved_by n (moved (known c v (with_def n))) (none_where (not (is_tracked v.def n) && moved (known c v (with_def n))) (P3 n) passes) apart)) tables each
+      (λ n passes apart. unchanged n (unmoved_by n (moved (known c v (with_def n))) (none_where (not (is_tracked v.def n) && moved (known c v (with_def n))) (P3 n) passes) apart)) tables each
     where
       unmoved_by : (n : ℕ) (b : Bool) → (not (is_tracked v.def n) && b) ≡ false → (n == t.0) ≡ false → b ≡ false
       unmoved_by n b e apart =
