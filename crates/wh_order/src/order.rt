@@ -15,7 +15,6 @@ use wh_base::statements::{Entry, Script, Section};
 ///
 /// It is linear in the sections and their parts, and looks at each session at most twice for each number of `@order`. An
 /// error says that memory ran out.
-#[tactic(auto, using(crate::proofs::Journals::order_whole))]
 pub fn order_of(alloc: Global, script: &Script) -> Result<Seq<Entry>, AllocError>
     ensures own { IfOk result (λ entries. entries ≡ own_turns script.now) }
     ensures whole { IfOk result (λ entries. accepted_submits script.now ≡ [] → entries ≡ order_of script.now) }
