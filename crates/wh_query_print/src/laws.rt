@@ -4,18 +4,9 @@ ghost use Rattle.def_grammar.specs.Written.{Each, IsSpelled, IsWritten, ReadsAs}
 ghost use Rattle.std.specs.Prelude.{◌≡◌, List, Ok, Some, ℕ};
 ghost use Rattle.wh_base.specs.declared.queries.RawQuery.{RawQuery};
 ghost use Rattle.wh_base.specs.declared.tokens.Token.{Token};
-ghost use Rattle.wh_lex.specs.Lex.{statement_at, tokens_of};
-ghost use Rattle.wh_lex.specs.declared.lex.StatementTokens.{StatementTokens};
+ghost use Rattle.wh_lex.specs.Lex.{tokens_of};
 
-/// The tokens of a text, and those of one of its statements, have texts that tokens may have.
-pub fn tokens_are_spelled()
-    ensures whole { (text : List ℕ) (tokens : List Token)
-        → tokens_of text ≡ Ok tokens → Each IsSpelled tokens }
-    ensures statement { (text : List ℕ) (place : ℕ) (statement : StatementTokens)
-        → statement_at text place ≡ Ok statement → Each IsSpelled statement.tokens }
-{}
-
-/// Each query that the grammar gives for such tokens, and so for those of a text, can be written.
+/// Each query that the grammar gives for tokens with texts that tokens may have, and so for the tokens of a text, can be written.
 pub fn what_reads_can_be_written()
     ensures spelled { (tokens rest : List Token) (query : RawQuery)
         → Each IsSpelled tokens → select tokens ≡ Some (query, rest) → IsWritten query }

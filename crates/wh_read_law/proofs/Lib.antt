@@ -1,8 +1,4 @@
-mod Places
-mod Queries
 mod Kept
-mod Spelled
-mod Elements
 mod Rules
 mod Statements
 mod Walk

@@ -6,21 +6,12 @@ use Rattle.std.specs.Prelude.{option_map, option_to_list}
 use Rattle.wh_base.specs.declared.statements.Command.{Command}
 use Rattle.wh_base.specs.declared.statements.Script.{Script}
 use Rattle.wh_base.specs.declared.statements.Section.{Section}
-use Rattle.wh_base.specs.declared.statements.Statement.{Statement}
-use Rattle.wh_base.specs.declared.tokens.Token.{Token}
 use Rattle.def_built.specs.Form.{built_script, draft_is_built}
-use Rattle.def_grammar.specs.Forms.{statement_of}
 use Rattle.def_grammar.specs.Script.{Draft, script_where}
-use Rattle.def_grammar.specs.Written.{Each, IfThere, IsSpelled}
+use Rattle.def_grammar.specs.Written.{IfThere}
 use Rattle.wh_view_law.specs.Read.{IsRead}
-use Rattle.wh_read_law.proofs.Elements.{elements-spelled}
-use Rattle.wh_read_law.proofs.Spelled.{TextsSpelled}
-use Rattle.wh_read_law.proofs.Statements.{Reads}
+use Rattle.wh_read_law.proofs.Statements.{statement-reads}
 use Rattle.wh_read_law.proofs.Walk.{Keeps, longer, script-holds, so_far}
-
--- a statement of spelled tokens asks what its text reads as
-abbrev pub StatementsRead : Type 0
-StatementsRead = (tokens : List Token) (statement : Statement) → Each IsSpelled tokens → statement_of tokens ≡ Some statement → Reads statement
 
 abbrev SectionReads : Section → Type 0
 SectionReads s = All IsRead s.commands
@@ -46,20 +37,20 @@ keeps-reading = record {
   command = λ before now c read h. record { earlier = h.earlier; current = one-more now c read h.current };
   setup = λ before now first h. record { earlier = all-sections before now h; current = All-nil IsRead };
   session = λ before now n small later h. record { earlier = all-sections before now h; current = All-nil IsRead };
-  order = λ before now h. record { earlier = all-sections before now h; current = tt };
+  ends = λ before now h. record { earlier = all-sections before now h; current = tt };
 }
 
 nothing-read : SoFarReads [] None
 nothing-read = record { earlier = All-nil SectionReads; current = tt }
 
-pub script-reads : TextsSpelled → StatementsRead → (is_built : Draft → Bool) (bytes : List ℕ) (tail : Bool) (script : Script) (place : ℕ) → script_where is_built bytes tail ≡ Ok (script, place)
+pub script-reads : (is_built : Draft → Bool) (bytes : List ℕ) (tail : Bool) (script : Script) (place : ℕ) → script_where is_built bytes tail ≡ Ok (script, place)
     → All (λ section. All IsRead section.commands) script.sections
-script-reads spells reads is_built bytes tail script place e =
+script-reads is_built bytes tail script place e =
     let held : SoFarReads script.sections None =
-    script-holds IsRead SoFarReads (Each IsSpelled) keeps-reading (λ statements. tt) reads nothing-read is_built bytes tail script place (elements-spelled spells bytes) e in
+    script-holds IsRead SoFarReads keeps-reading (λ statements. tt) (λ statement. tt) statement-reads nothing-read is_built bytes tail script place e in
     held.earlier
 
-pub built-script-reads : TextsSpelled → StatementsRead → (bytes : List ℕ) (tail : Bool) (script : Script) (place : ℕ) → built_script bytes tail ≡ Ok (script, place)
+pub built-script-reads : (bytes : List ℕ) (tail : Bool) (script : Script) (place : ℕ) → built_script bytes tail ≡ Ok (script, place)
     → All (λ section. All IsRead section.commands) script.sections
 unfolding built_script
-built-script-reads spells reads bytes tail script place e = script-reads spells reads draft_is_built bytes tail script place e
+built-script-reads bytes tail script place e = script-reads draft_is_built bytes tail script place e

@@ -8,11 +8,8 @@ use Rattle.wh_base.specs.declared.statements.Command.{Command}
 use Rattle.wh_base.specs.declared.statements.Script.{Script}
 use Rattle.wh_base.specs.declared.statements.Section.{Section}
 use Rattle.def_built.specs.Form.{built_script, draft_is_built}
-use Rattle.def_grammar.specs.Script.{Draft, Element, elements_of, is_later, script_where}
-use Rattle.def_grammar.specs.Script as elements
-use Rattle.def_grammar.specs.Written as written
+use Rattle.def_grammar.specs.Script.{Draft, is_later, script_where}
 use Rattle.wh_trace.proofs.Listed.{Each, Pairs, all_from, each_append, each_left, each_right, each_weaker, pairs_across, pairs_from, pairs_left, pairs_push}
-use Rattle.wh_read_law.proofs.Elements.{HasTokens}
 use Rattle.wh_read_law.proofs.Walk.{Keeps, last_of, longer, opened, script-holds, so_far}
 
 abbrev IsBefore : Section → Section → Type 0
@@ -68,23 +65,13 @@ keeps-ascending = record {
   command = λ before now c any h. with-command before now c h;
   setup = λ before now first h. setup-first (so_far before now) first;
   session = λ before now n small later h. session-later (so_far before now) n small later h;
-  order = λ before now h. subst Ascend (sym (append-nil (so_far before now))) h;
+  ends = λ before now h. subst Ascend (sym (append-nil (so_far before now))) h;
 }
-
--- nothing is asked of the tokens
-any-tokens : (es : List Element) → written.Each (HasTokens (λ ts. Unit {0})) es
-any-tokens [] = tt
-any-tokens (elements.Stated p ∷ es) = (tt, any-tokens es)
-any-tokens (elements.Directed l d ∷ es) = (tt, any-tokens es)
-any-tokens (elements.Loaded l n ls closed ∷ es) = (tt, any-tokens es)
-any-tokens (elements.Ended l ls ∷ es) = (tt, any-tokens es)
-any-tokens (elements.Unreadable kind place ∷ es) = (tt, any-tokens es)
 
 script-ascends : (is_built : Draft → Bool) (bytes : List ℕ) (tail : Bool) (script : Script) (place : ℕ) → script_where is_built bytes tail ≡ Ok (script, place) → Ascend script.sections
 script-ascends is_built bytes tail script place e =
     let held : Ascend (script.sections ++ []) =
-    script-holds (λ c. Unit {0}) SoFarAscends (λ ts. Unit {0}) keeps-ascending (λ statements. tt) (λ tokens statement any read. tt) (record { rising = tt; within = tt }) is_built bytes tail script place
-    (any-tokens (elements_of bytes)) e in
+    script-holds (λ c. Unit {0}) SoFarAscends keeps-ascending (λ statements. tt) (λ statement. tt) (λ tokens statement read. tt) (record { rising = tt; within = tt }) is_built bytes tail script place e in
     subst Ascend (append-nil script.sections) held
 
 pub sections-rise : (is_built : Draft → Bool) (bytes : List ℕ) (tail : Bool) (script : Script) (place : ℕ) → script_where is_built bytes tail ≡ Ok (script, place)

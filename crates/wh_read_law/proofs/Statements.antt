@@ -8,8 +8,6 @@ use Rattle.wh_base.specs.declared.statements.ChangeStatement.TheVariants.{Delete
 use Rattle.wh_base.specs.declared.statements.Command.TheVariants as commands
 use Rattle.wh_base.specs.declared.statements.DimensionStatement.TheVariants.{CreateDimension, DropDimension}
 use Rattle.wh_base.specs.declared.statements.LogStatement.TheVariants.{CreateLog, DropLog}
-use Rattle.wh_base.specs.declared.statements.Method.{Method}
-use Rattle.wh_base.specs.declared.statements.Method.TheVariants.{Complete, Fast, Force}
 use Rattle.wh_base.specs.declared.statements.PurgeStatement.TheVariants.{PurgeLog, PurgeUndo}
 use Rattle.wh_base.specs.declared.statements.SessionStatement.TheVariants.{EndReadOnly, ReadOnly, SetLevel, SetRewrite}
 use Rattle.wh_base.specs.declared.statements.ShowStatement.TheVariants.{ExplainView, ShowLog, ShowView, ValidateDimension}
@@ -18,11 +16,11 @@ use Rattle.wh_base.specs.declared.statements.Statement.TheVariants as about
 use Rattle.wh_base.specs.declared.statements.TableStatement.TheVariants.{AlterTable, CreateTable}
 use Rattle.wh_base.specs.declared.statements.ViewStatement.TheVariants.{AlterView, CreateView, DropView, Unregister}
 use Rattle.wh_base.specs.declared.tokens.Token.{Token}
-use Rattle.def_grammar.specs.Forms.{all_words, alter_table, alter_view, asked, attribute, create_dimension, create_log, create_table, create_view, definition, delete, dimension, dml, fast_or_other, foreign_part, hierarchy, insert, is_deferred, key_part, level, level_setting, log, log_options, method_text, name_text_token, named_form, new_column_part, on_commit, on_or_off, other, own_conditions, part_change, partitioning, refresh, refresh_clause, rewrite_clause, row_value, session_setting, set_column, statement, statement_of, update, view}
+use Rattle.def_grammar.specs.Forms.{all_words, alter_table, alter_view, asked, attribute, create_dimension, create_log, create_table, create_view, definition, delete, dimension, dml, foreign_part, hierarchy, insert, is_deferred, key_part, level, level_setting, log, log_options, method_text, movement_behind, name_list_token, named_form, new_column_part, on_or_off, other, own_conditions, part_change, partitioning, refresh, refresh_clause, rewrite_clause, row_value, session_setting, set_column, statement, statement_of, update, view}
 use Rattle.def_grammar.specs.Reading.{Rule, bracketed, gives, listed, many, mapped, mark, maybe, name, number, optional_list, word, ◌>>=◌, ◌>>◌, ◌or◌}
-use Rattle.def_grammar.specs.Written.{Each, IsSpelled}
 use Rattle.wh_view_law.specs.Read.{IsRead, ReadsAs}
-use Rattle.wh_read_law.proofs.Rules.{Ends, Gives, Leaves, OfAll, bind-ends, bind-gives, bind-leaves, gives-ends, gives-it, gives-leaves, made-ends, mapped-ends, mapped-gives, name-leaves, or-ends, or-gives, or-leaves, then-ends, then-gives, then-leaves, word-leaves, words-leave}
+use Rattle.wh_read_law.proofs.Kept.{kept-reads}
+use Rattle.wh_read_law.proofs.Rules.{Ends, Gives, OfAll, bind-ends, bind-gives, gives-ends, gives-it, made-ends, mapped-ends, mapped-gives, or-ends, or-gives, then-ends, then-gives}
 
 -- the statement asks what its text reads as
 abbrev pub Reads : Statement → Type 0
@@ -61,7 +59,8 @@ create-table-gives =
     then-gives Reads (all_words (codes "CREATE" ∷ codes "TABLE" ∷ [])) _ (bind-gives Reads name _ (λ t.
     bind-gives Reads (bracketed (listed (key_part or foreign_part or new_column_part))) _ (λ ps.
     bind-gives Reads (maybe partitioning) _ (λ p.
-    gives-it Reads (about.Table (CreateTable (record { name = t; parts = ps; partitioning = p }))) tt))))
+    bind-gives Reads (movement_behind p) _ (λ m.
+    gives-it Reads (about.Table (CreateTable (record { name = t; parts = ps; partitioning = p; movement = m }))) tt)))))
 
 alter-table-gives : Gives Reads alter_table
 alter-table-gives =
@@ -108,9 +107,9 @@ refresh-gives : Gives Reads refresh
 refresh-gives =
     then-gives Reads (word (codes "EXECUTE") or word (codes "EXEC")) _ (then-gives Reads (word (codes "DBMS_MVIEW")) _ (
     then-gives Reads (mark (codes ".")) _ (then-gives Reads (word (codes "REFRESH")) _ (then-gives Reads (mark (codes "(")) _ (
-    bind-gives Reads name_text_token _ (λ n.
+    bind-gives Reads name_list_token _ (λ l.
     bind-gives Reads (maybe (mark (codes ",") >> method_text)) _ (λ m.
-    then-gives Reads (mark (codes ")")) _ (gives-it Reads (about.Refresh (record { name = n; method = m })) tt))))))))
+    then-gives Reads (mark (codes ")")) _ (gives-it Reads (about.Refresh (record { name = l.0; method = m; more = l.1 })) tt))))))))
 
 setting-gives : Gives Reads session_setting
 setting-gives =
@@ -120,55 +119,14 @@ setting-gives =
     (mapped-gives Reads (λ l. about.Session (SetLevel l)) (word (codes "QUERY_REWRITE_INTEGRITY") >> mark (codes "=") >> level_setting) (λ l. tt))
     (mapped-gives Reads (λ on. about.Session (SetRewrite on)) (word (codes "QUERY_REWRITE_ENABLED") >> mark (codes "=") >> on_or_off) (λ on. tt)))
 
--- ---- what stands before a query
-
--- a value behind these keywords
-worded : {A : Type 0} (ws : List (List ℕ)) (x : A) → Leaves (all_words ws >> gives x)
-worded ws x = then-leaves (all_words ws) (gives x) (words-leave ws) (gives-leaves x)
-
-keyed : {A : Type 0} (w : List ℕ) (x : A) → Leaves (word w >> gives x)
-keyed w x = then-leaves (word w) (gives x) (word-leaves w) (gives-leaves x)
-
-deferred-leaves : Leaves is_deferred
-deferred-leaves =
-    or-leaves (all_words (codes "BUILD" ∷ codes "IMMEDIATE" ∷ []) >> gives false) ((all_words (codes "BUILD" ∷ codes "DEFERRED" ∷ []) >> gives true) or gives false) (worded (codes "BUILD" ∷ codes "IMMEDIATE" ∷ []) false)
-    (or-leaves (all_words (codes "BUILD" ∷ codes "DEFERRED" ∷ []) >> gives true) (gives false) (worded (codes "BUILD" ∷ codes "DEFERRED" ∷ []) true) (gives-leaves false))
-
-method-leaves : Leaves fast_or_other
-method-leaves =
-    or-leaves (word (codes "FAST") >> gives Fast) ((word (codes "COMPLETE") >> gives Complete) or ((word (codes "FORCE") >> gives Force) or gives Force)) (keyed (codes "FAST") Fast)
-    (or-leaves (word (codes "COMPLETE") >> gives Complete) ((word (codes "FORCE") >> gives Force) or gives Force) (keyed (codes "COMPLETE") Complete)
-    (or-leaves (word (codes "FORCE") >> gives Force) (gives Force) (keyed (codes "FORCE") Force) (gives-leaves Force)))
-
-commit-leaves : Leaves on_commit
-commit-leaves =
-    or-leaves (all_words (codes "ON" ∷ codes "COMMIT" ∷ []) >> gives true) ((all_words (codes "ON" ∷ codes "DEMAND" ∷ []) >> gives false) or gives false) (worded (codes "ON" ∷ codes "COMMIT" ∷ []) true)
-    (or-leaves (all_words (codes "ON" ∷ codes "DEMAND" ∷ []) >> gives false) (gives false) (worded (codes "ON" ∷ codes "DEMAND" ∷ []) false) (gives-leaves false))
-
-refresh-leaves : Leaves refresh_clause
-refresh-leaves =
-    let none : Rule (Method × Bool) = gives (Force, false) in
-    or-leaves (word (codes "REFRESH") >> (fast_or_other >>= (λ m. on_commit >>= (λ c. gives (m, c))))) none
-    (then-leaves (word (codes "REFRESH")) (fast_or_other >>= (λ m. on_commit >>= (λ c. gives (m, c)))) (word-leaves (codes "REFRESH"))
-    (bind-leaves fast_or_other (λ m. on_commit >>= (λ c. gives (m, c))) method-leaves (λ m. bind-leaves on_commit (λ c. gives (m, c)) commit-leaves (λ c. gives-leaves (m, c))))) (gives-leaves (Force, false))
-
-rewrite-leaves : Leaves rewrite_clause
-rewrite-leaves =
-    or-leaves (all_words (codes "ENABLE" ∷ codes "QUERY" ∷ codes "REWRITE" ∷ []) >> gives true) (all_words (codes "DISABLE" ∷ codes "QUERY" ∷ codes "REWRITE" ∷ []) >> gives false)
-    (worded (codes "ENABLE" ∷ codes "QUERY" ∷ codes "REWRITE" ∷ []) true) (worded (codes "DISABLE" ∷ codes "QUERY" ∷ codes "REWRITE" ∷ []) false)
-
 -- ---- statements that ask
 
--- the text that is kept with a SELECT reads as its query
-abbrev pub KeepsQueries : Type 0
-KeepsQueries = (tokens : List Token) (kept : Asked) → Each IsSpelled tokens → asked tokens ≡ Some (kept, []) → ReadsAs kept
+asked-end : (ts : List Token) (o : Option (Asked × List Token)) → asked ts ≡ o → OfAll ReadsAs o
+asked-end ts None e = tt
+asked-end ts (Some p) e = λ none. kept-reads ts p.0 (e ∙ ap (λ rest. Some (p.0, rest)) none)
 
-asked-end : KeepsQueries → (ts : List Token) → Each IsSpelled ts → (o : Option (Asked × List Token)) → asked ts ≡ o → OfAll ReadsAs o
-asked-end keeps ts all None e = tt
-asked-end keeps ts all (Some p) e = λ none. keeps ts p.0 all (e ∙ ap (λ rest. Some (p.0, rest)) none)
-
-asked-ends : KeepsQueries → Ends ReadsAs asked
-asked-ends keeps = record { all = λ ts all. asked-end keeps ts all (asked ts) refl }
+asked-ends : Ends ReadsAs asked
+asked-ends = record { all = λ ts. asked-end ts (asked ts) refl }
 
 -- a SELECT that passes a test
 tested : (b : Bool) (p : Asked × List Token) → (p.1 ≡ [] → ReadsAs p.0) → OfAll ReadsAs (where_true b p)
@@ -179,41 +137,41 @@ definition-end : (o : Option (Asked × List Token)) → OfAll ReadsAs o → OfAl
 definition-end None h = tt
 definition-end (Some p) h = tested (is_none p.0.query.as_of) p h
 
-definition-ends : KeepsQueries → Ends ReadsAs definition
-definition-ends keeps = record { all = λ ts all. definition-end (asked ts) ((asked-ends keeps).all ts all) }
+definition-ends : Ends ReadsAs definition
+definition-ends = record { all = λ ts. definition-end (asked ts) (asked-ends.all ts) }
 
-create-view-ends : KeepsQueries → Ends Reads create_view
-create-view-ends keeps =
-    then-ends Reads _ _ (words-leave (codes "CREATE" ∷ codes "MATERIALIZED" ∷ codes "VIEW" ∷ []))
-    (bind-ends Reads name _ name-leaves (λ n.
-    bind-ends Reads is_deferred _ deferred-leaves (λ deferred.
-    bind-ends Reads refresh_clause _ refresh-leaves (λ how.
-    bind-ends Reads (rewrite_clause or gives false) _ (or-leaves rewrite_clause (gives false) rewrite-leaves (gives-leaves false)) (λ rewrite.
-    then-ends Reads _ _ (word-leaves (codes "AS"))
-    (made-ends ReadsAs Reads (λ q. about.View (CreateView (record { name = n; deferred = deferred; method = how.0; on_commit = how.1; rewrite = rewrite; asked = q }))) definition (definition-ends keeps) (λ q h. h)))))))
+create-view-ends : Ends Reads create_view
+create-view-ends =
+    then-ends Reads (all_words (codes "CREATE" ∷ codes "MATERIALIZED" ∷ codes "VIEW" ∷ [])) _
+    (bind-ends Reads name _ (λ n.
+    bind-ends Reads is_deferred _ (λ deferred.
+    bind-ends Reads refresh_clause _ (λ how.
+    bind-ends Reads (rewrite_clause or gives false) _ (λ rewrite.
+    then-ends Reads (word (codes "AS")) _
+    (made-ends ReadsAs Reads (λ q. about.View (CreateView (record { name = n; deferred = deferred; method = how.0; on_commit = how.1; rewrite = rewrite; asked = q }))) definition definition-ends (λ q h. h)))))))
 
-view-ends : KeepsQueries → Ends Reads view
-view-ends keeps =
+view-ends : Ends Reads view
+view-ends =
     let dropped : Rule Statement = named_form (codes "DROP" ∷ codes "MATERIALIZED" ∷ codes "VIEW" ∷ []) (λ n. about.View (DropView n)) in
     let unregistered : Rule Statement = named_form (codes "UNREGISTER" ∷ codes "MATERIALIZED" ∷ codes "VIEW" ∷ []) (λ n. about.View (Unregister n)) in
-    or-ends Reads create_view (alter_view or dropped or unregistered) (create-view-ends keeps)
+    or-ends Reads create_view (alter_view or dropped or unregistered) create-view-ends
     (gives-ends Reads (alter_view or dropped or unregistered) (or-gives Reads alter_view (dropped or unregistered) alter-view-gives
     (or-gives Reads dropped unregistered (named-gives (codes "DROP" ∷ codes "MATERIALIZED" ∷ codes "VIEW" ∷ []) (λ n. about.View (DropView n)) (λ n. tt))
     (named-gives (codes "UNREGISTER" ∷ codes "MATERIALIZED" ∷ codes "VIEW" ∷ []) (λ n. about.View (Unregister n)) (λ n. tt)))))
 
 -- EXPLAIN REWRITE, or what follows it in the grammar
-explained-ends : KeepsQueries → (s : Rule Statement) → Gives Reads s → Ends Reads (mapped about.ExplainQuery (all_words (codes "EXPLAIN" ∷ codes "REWRITE" ∷ []) >> asked) or s)
-explained-ends keeps s h =
+explained-ends : (s : Rule Statement) → Gives Reads s → Ends Reads (mapped about.ExplainQuery (all_words (codes "EXPLAIN" ∷ codes "REWRITE" ∷ []) >> asked) or s)
+explained-ends s h =
     let explained : Rule Asked = all_words (codes "EXPLAIN" ∷ codes "REWRITE" ∷ []) >> asked in
     or-ends Reads (mapped about.ExplainQuery explained) s
-    (mapped-ends ReadsAs Reads about.ExplainQuery explained (then-ends ReadsAs (all_words (codes "EXPLAIN" ∷ codes "REWRITE" ∷ [])) asked (words-leave (codes "EXPLAIN" ∷ codes "REWRITE" ∷ [])) (asked-ends keeps)) (λ a k. k)) (gives-ends Reads s h)
+    (mapped-ends ReadsAs Reads about.ExplainQuery explained (then-ends ReadsAs (all_words (codes "EXPLAIN" ∷ codes "REWRITE" ∷ [])) asked asked-ends) (λ a k. k)) (gives-ends Reads s h)
 
 -- a statement of a keyword or two, or what follows it in the grammar
 named-ends : (ws : List (List ℕ)) (make : List ℕ → Statement) (s : Rule Statement) → ((n : List ℕ) → Reads (make n)) → Ends Reads s → Ends Reads (named_form ws make or s)
 named-ends ws make s h k = or-ends Reads (named_form ws make) s (gives-ends Reads (named_form ws make) (named-gives ws make h)) k
 
-other-ends : KeepsQueries → Ends Reads other
-other-ends keeps =
+other-ends : Ends Reads other
+other-ends =
     let undo : Rule ℕ = all_words (codes "PURGE" ∷ codes "UNDO" ∷ codes "TO" ∷ codes "SCN" ∷ []) >> number in
     let read_only : Rule Bool = all_words (codes "SET" ∷ codes "TRANSACTION" ∷ codes "READ" ∷ codes "ONLY" ∷ []) in
     named-ends (codes "PURGE" ∷ codes "LOG" ∷ codes "ON" ∷ []) (λ n. about.Purge (PurgeLog n)) _ (λ n. tt)
@@ -221,21 +179,21 @@ other-ends keeps =
     (named-ends (codes "SHOW" ∷ codes "VIEW" ∷ []) (λ n. about.Show (ShowView n)) _ (λ n. tt)
     (named-ends (codes "SHOW" ∷ codes "LOG" ∷ []) (λ n. about.Show (ShowLog n)) _ (λ n. tt)
     (named-ends (codes "EXPLAIN" ∷ codes "MVIEW" ∷ []) (λ n. about.Show (ExplainView n)) _ (λ n. tt)
-    (explained-ends keeps _ (or-gives Reads (mapped (λ _. about.Session ReadOnly) read_only) _ (mapped-gives Reads (λ _. about.Session ReadOnly) read_only (λ _. tt))
+    (explained-ends _ (or-gives Reads (mapped (λ _. about.Session ReadOnly) read_only) _ (mapped-gives Reads (λ _. about.Session ReadOnly) read_only (λ _. tt))
     (or-gives Reads (mapped (λ _. about.Session EndReadOnly) (word (codes "COMMIT"))) session_setting (mapped-gives Reads (λ _. about.Session EndReadOnly) (word (codes "COMMIT")) (λ _. tt)) setting-gives)))))))
 
-statement-ends : KeepsQueries → Ends Reads statement
-statement-ends keeps =
+statement-ends : Ends Reads statement
+statement-ends =
     let later : Rule Statement = view or dimension or refresh or other in
     let others : Rule Statement = create_table or alter_table or log or later in
-    or-ends Reads (mapped about.Select asked) (dml or others) (mapped-ends ReadsAs Reads about.Select asked (asked-ends keeps) (λ a h. h))
+    or-ends Reads (mapped about.Select asked) (dml or others) (mapped-ends ReadsAs Reads about.Select asked asked-ends (λ a h. h))
     (or-ends Reads dml others (gives-ends Reads dml dml-gives)
     (or-ends Reads create_table (alter_table or log or later) (gives-ends Reads create_table create-table-gives)
     (or-ends Reads alter_table (log or later) (gives-ends Reads alter_table alter-table-gives)
     (or-ends Reads log later (gives-ends Reads log log-gives)
-    (or-ends Reads view (dimension or refresh or other) (view-ends keeps)
+    (or-ends Reads view (dimension or refresh or other) view-ends
     (or-ends Reads dimension (refresh or other) (gives-ends Reads dimension dimension-gives)
-    (or-ends Reads refresh other (gives-ends Reads refresh refresh-gives) (other-ends keeps))))))))
+    (or-ends Reads refresh other (gives-ends Reads refresh refresh-gives) other-ends)))))))
 
 -- ---- the laws
 
@@ -250,5 +208,5 @@ whole-reads : (o : Option (Statement × List Token)) (s : Statement) → OfAll R
 whole-reads None s h e = absurd (cc)
 whole-reads (Some p) s h e = all-taken p.0 p.1 s h e
 
-pub statement-reads : KeepsQueries → (tokens : List Token) (statement : Statement) → Each IsSpelled tokens → statement_of tokens ≡ Some statement → Reads statement
-statement-reads keeps ts s all e = whole-reads (statement ts) s ((statement-ends keeps).all ts all) e
+pub statement-reads : (tokens : List Token) (statement : Statement) → statement_of tokens ≡ Some statement → Reads statement
+statement-reads ts s e = whole-reads (statement ts) s (statement-ends.all ts) e

@@ -1,7 +1,6 @@
 ghost use Rattle.def_built.specs.Form.{built_script};
 ghost use Rattle.def_grammar.specs.Forms.{asked, statement_of};
 ghost use Rattle.def_grammar.specs.Script.{Draft, script_where};
-ghost use Rattle.def_grammar.specs.Written.{Each, IsSpelled};
 ghost use Rattle.std.specs.List.{All, AllPairs};
 ghost use Rattle.std.specs.Prelude.{◌<◌, ◌≡◌, ◌≤◌, [], Bool, List, Ok, Some, ℕ};
 ghost use Rattle.wh_base.specs.declared.statements.Asked.{Asked};
@@ -11,24 +10,16 @@ ghost use Rattle.wh_base.specs.declared.statements.Statement.{Statement};
 ghost use Rattle.wh_base.specs.declared.tokens.Token.{Token};
 ghost use Rattle.wh_view_law.specs.Read.{IsRead, ReadsAs};
 
-use wh_query_print::laws::{tokens_are_spelled, what_is_kept_reads_as_its_tokens};
-
-/// Where tokens that a text may have are a SELECT and nothing more, the text that is kept with it reads as its query.
+/// Where tokens are a SELECT and nothing more, the tokens that are kept with it read as its query.
 pub fn what_is_kept_reads_as_its_query()
-    ensures { (tokens : List Token) (kept : Asked)
-        → Each IsSpelled tokens → asked tokens ≡ Some (kept, []) → ReadsAs kept }
-{
-    what_is_kept_reads_as_its_tokens();
-}
+    ensures { (tokens : List Token) (kept : Asked) → asked tokens ≡ Some (kept, []) → ReadsAs kept }
+{}
 
-/// Each statement that the grammar gives for all of such tokens, as those of a text are, asks what its text reads as, where it
-/// asks a query: as a SELECT, an EXPLAIN REWRITE or a CREATE MATERIALIZED VIEW.
+/// Each statement that the grammar gives for all of the tokens asks what they read as, where it asks a query: as a SELECT, an
+/// EXPLAIN REWRITE or a CREATE MATERIALIZED VIEW.
 pub fn a_statement_asks_what_its_text_reads_as()
-    ensures { (tokens : List Token) (statement : Statement)
-        → Each IsSpelled tokens → statement_of tokens ≡ Some statement → IsRead (Other statement) }
-{
-    what_is_kept_reads_as_its_query();
-}
+    ensures { (tokens : List Token) (statement : Statement) → statement_of tokens ≡ Some statement → IsRead (Other statement) }
+{}
 
 /// Each command of a script that is read from bytes asks what its text reads as: whichever drafts of scripts are built, and so
 /// by those that the program runs. With a tail any bytes may follow the script.
@@ -37,10 +28,7 @@ pub fn a_script_asks_what_its_texts_read_as()
         → script_where is_built bytes tail ≡ Ok (script, place) → All (λ section. All IsRead section.commands) script.sections }
     ensures built { (bytes : List ℕ) (tail : Bool) (script : Script) (place : ℕ)
         → built_script bytes tail ≡ Ok (script, place) → All (λ section. All IsRead section.commands) script.sections }
-{
-    tokens_are_spelled();
-    a_statement_asks_what_its_text_reads_as();
-}
+{}
 
 /// The numbers of a script's sections ascend, from 0 for the setup up to 64: whichever drafts of scripts are built, and so by
 /// those that the program runs. With a tail any bytes may follow the script.

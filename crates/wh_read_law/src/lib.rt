@@ -1,4 +1,4 @@
-//! Why the text that is kept with what a script asks reads as its query.
+//! Why the tokens that are kept with what a script asks read as its query.
 #![tactic(auto)]
 
 pub mod laws;

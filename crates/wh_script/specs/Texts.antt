@@ -4,7 +4,7 @@ use Rattle.def_grammar.specs.Forms.{tokens_or_none}
 use Rattle.def_grammar.specs.Script as script
 use Rattle.def_grammar.specs.Script.{Draft, Element, Stated, Unreadable, bad, line_at, read_from, text_elements, tokens_before, unclosed}
 use Rattle.std.specs.List.{list_all}
-use Rattle.std.specs.Prelude.{Bool, Err, List, None, Ok, Option, Result, Some, [], cond, drop, map, nat_le, not, option_map, take, true, ℕ, ◌&&◌, ◌++◌, ◌∷◌, ◌≡◌, ◌≤◌}
+use Rattle.std.specs.Prelude.{Bool, Err, List, None, Ok, Option, Result, Some, [], drop, map, nat_le, not, option_map, take, true, ℕ, ◌&&◌, ◌++◌, ◌∷◌, ◌≡◌, ◌≤◌}
 use Rattle.wh_base.specs.Lists.{first_some, head, option_case}
 use Rattle.wh_base.specs.declared.statements.ScriptKind.{ScriptKind}
 use Rattle.wh_base.specs.declared.statements.ScriptKind.TheVariants.{NotUtf8}
@@ -42,14 +42,14 @@ abbrev pub is_broken_by : ℕ → ℕ → ℕ → Bool
 is_broken_by valid at place = nat_le at valid && nat_le valid place
 
 -- these tokens up to a byte that can't be read, and that byte; or both of the byte that is no UTF-8, where that stands no later
-abbrev pub elements_by : Bool → List Token → ℕ → ScriptKind → ℕ → List Element
-elements_by true ts valid kind place = script.stated (tokens_before valid ts) ++ Unreadable NotUtf8 valid ∷ []
-elements_by false ts valid kind place = script.stated ts ++ Unreadable kind place ∷ []
+abbrev pub stopped_elements : Bool → List Token → ℕ → ScriptKind → ℕ → List Element
+stopped_elements true ts valid kind place = script.stated (tokens_before valid ts) ++ Unreadable NotUtf8 valid ∷ []
+stopped_elements false ts valid kind place = script.stated ts ++ Unreadable kind place ∷ []
 
 -- the elements from a place on up to a byte that can't be read
 abbrev pub elements_up_to : List ℕ → ℕ → ScriptKind → ℕ → ℕ → List Element
 elements_up_to bytes valid kind place at =
-    elements_by (is_broken_by valid at place) (tokens_or_none (tokens_at (take place bytes) at)) valid kind place
+    stopped_elements (is_broken_by valid at place) (tokens_or_none (tokens_at (take place bytes) at)) valid kind place
 
 -- there are tokens, and no semicolon
 abbrev pub IsOpen : Result (List Token) LexFault → Type 0

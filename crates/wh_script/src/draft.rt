@@ -18,9 +18,9 @@ use wh_base::shared::Shared;
 use wh_base::statements::{
     BadScript, Block, ChangeStatement, Command, ScriptKind, Section, Statement,
 };
+use wh_base::tokens::Token;
 use wh_ddl_text::statements::{whole_statement, whole_submit};
 use wh_lex::lex::StatementTokens;
-use wh_base::tokens::Token;
 use wh_query_text::parser::{ParseFault, Parser};
 
 /// A block that is open: the line of its BEGIN and its statements so far.

@@ -1,7 +1,7 @@
 ghost use Rattle.def_built.specs.Form.{draft_is_built};
 ghost use Rattle.def_grammar.specs.Script.{line_at};
 ghost use Rattle.std.specs.List.{list_all};
-ghost use Rattle.std.specs.Prelude.{◌≡◌, ◌<◌, ◌≤◌, ◌^◌, ◌++◌, ◌∷◌, [], Err, IfOk, IfSome, length, nat_lt, take, take_while, true, unwrap_or};
+ghost use Rattle.std.specs.Prelude.{◌≡◌, ◌<◌, ◌≤◌, ◌^◌, Err, IfOk, IfSome, length, nat_lt, take, take_while, true, unwrap_or};
 ghost use Rattle.wh_lex.specs.Lex.{token_fits, tokens_at};
 ghost use Rattle.wh_script.specs.Pieces.{IsTaken};
 ghost use Rattle.wh_script.specs.Texts.{IsMark, IsNext, IsOpen, cut, draft_of, elements_up_to, first_place, statement_elements, unreadable};
@@ -11,8 +11,8 @@ use crate::fault::ScriptFault;
 use crate::lines::{LineMark, mark_at};
 use std::alloc::Global;
 use wh_base::statements::ScriptKind;
+use wh_base::tokens::Token;
 use wh_lex::lex::{LexFault, StatementTokens, statement_tokens};
-use wh_lex::token::Token;
 
 /// How far a text has been read: the draft of what stands before a place, and the mark of a place no later.
 #[derive(Drop)]
@@ -52,8 +52,8 @@ impl TextAt {
         match statement_tokens(alloc, &bytes[..end], self.at) {
             Ok(statement) => {
                 if self.at <= valid && valid < statement.next {
-                    let cut = cut(statement, valid);
-                    return Err(self.stop_at(alloc, bytes, &cut, valid, ScriptKind::NotUtf8));
+                    let front = cut(statement, valid);
+                    return Err(self.stop_at(alloc, bytes, &front, valid, ScriptKind::NotUtf8));
                 }
                 self.behind(alloc, bytes, &statement)
             }
@@ -153,8 +153,8 @@ impl TextAt {
             return ScriptFault::Memory;
         };
         if self.at <= valid && valid <= place {
-            let cut = cut(statement, valid);
-            return self.stop_at(alloc, bytes, &cut, valid, ScriptKind::NotUtf8);
+            let front = cut(statement, valid);
+            return self.stop_at(alloc, bytes, &front, valid, ScriptKind::NotUtf8);
         }
         self.stop_at(alloc, bytes, &statement, place, kind)
     }

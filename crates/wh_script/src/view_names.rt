@@ -2,7 +2,7 @@ ghost use Rattle.def_built.specs.Form.{created_by, created_over};
 ghost use Rattle.def_resolve.specs.Names.{lone_name};
 ghost use Rattle.std.specs.List.{list_any};
 ghost use Rattle.std.specs.Option.{option_copied};
-ghost use Rattle.std.specs.Prelude.{◌≡◌, [], IfOk, OnOk, false, option_to_list};
+ghost use Rattle.std.specs.Prelude.{◌≡◌, ◌||◌, ◌∷◌, [], IfOk, OnOk, false, option_to_list};
 ghost use Rattle.wh_base.specs.Lists.{has_text};
 ghost use Rattle.wh_script.specs.Known.{HasMore, IsMore, lone_of, nests_with};
 
@@ -112,11 +112,19 @@ impl ViewNames {
         self.over.has_some(made) || self.made.has_some(over) || are_one(made, over)
     }
 
+    // Whether a view may stand over a view with this command's too.
+    fn nest_more(&self, command: &Command) -> bool
+        ensures { result ≡ (self.now.nest || nests_with self.now command.now) }
+    {
+        self.nest || self.nest_with(command)
+    }
+
     /// The names with those of one command more, in the time of a few looks. An error says that memory ran out.
+    #[tactic(auto, using(crate::proofs::Nesting::mores))]
     pub fn with(self, alloc: Global, command: &Command) -> Result<ViewNames, AllocError>
         ensures { IfOk result (λ v. IsMore self command.now v) }
     {
-        let nest = self.nest || self.nest_with(command);
+        let nest = self.nest_more(command);
         let ViewNames {
             mut made,
             mut over,

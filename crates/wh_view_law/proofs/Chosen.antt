@@ -2,7 +2,7 @@
 use Rattle.std.proofs.Common.{◌≡◌, ◌∙◌, sym, ap, refl, subst, arith, ℕ, ◌<◌, Bool, true, false, cond, List, [], ◌∷◌, length, Option, None, Some, ◌==◌, ◌&&◌}
 use Rattle.std.specs.List.{cons_option, find}
 use Rattle.std.specs.Ordering.{is_lt}
-use Rattle.std.specs.Prelude.{filter_map, is_none, is_some, option_and_then, unwrap_or}
+use Rattle.std.specs.Prelude.{filter_map, is_none, is_some, option_and_then}
 use Rattle.std.specs.declared.cmp.Ordering.{Ordering}
 use Rattle.std.proofs.lemmas.Bool.{eq-eqb, eqb-true}
 use Rattle.wh_base.specs.Lists.{first_some, head, option_case, put_in_order, sort_onto, sorted_by, where_true}
@@ -11,26 +11,30 @@ use Rattle.wh_base.specs.declared.statements.Level.TheVariants.{Enforced}
 use Rattle.wh_base.specs.declared.tables.TableDef.{TableDef}
 use Rattle.wh_base.specs.declared.views.Back.{Back}
 use Rattle.wh_base.specs.declared.views.Class.{Class}
-use Rattle.wh_base.specs.declared.views.Class.TheVariants.{Full, General, JoinBack, Partial}
+use Rattle.wh_base.specs.declared.views.Class.TheVariants.{Concat, Full, General, JoinBack, Partial}
 use Rattle.wh_base.specs.declared.views.Plan.TheVariants as plan
+use Rattle.wh_base.specs.declared.views.Requirement.{Requirement}
+use Rattle.wh_base.specs.declared.views.Requirement.TheVariants as requirement
 use Rattle.wh_base.specs.declared.views.ViewPlan.{ViewPlan}
 use Rattle.wh_base.specs.declared.tokens.Token.{Token}
 use Rattle.def_choice.specs.Choice.{Candidate, best, candidate, candidate_cmp, choice, class_is_built, view_plan}
-use Rattle.def_choice.specs.Eligible.{Standing, back_of, class_of, form_failure, general_class, holds_e8, holds_e9, is_fresh_enough, partial_holds, standing_unless, text_class, time_failure}
+use Rattle.def_choice.specs.Concat.{concat_holds, or_concat}
+use Rattle.def_choice.specs.Eligible.{Failing, Standing, back_of, class_of, form_failure, general_class, holds_e8, holds_e9, is_fresh_enough, partial_holds, standing_unless, text_class, time_failure}
 use Rattle.def_history.specs.Catalog.{Catalog, View, defs_now, view_numbered}
 use Rattle.def_history.specs.Staleness.{content}
 use Rattle.def_rewriting.specs.Compatible.{failing}
-use Rattle.def_rewriting.specs.Matching.{FullText, NoText, PartialText, TextMatch, match_text, query_tokens, read_tokens}
+use Rattle.def_rewriting.specs.Matching.{FullText, NoText, PartialText, TextMatch, match_text}
 use Rattle.def_rewriting.specs.Reaching.{reach}
 use Rattle.wh_trace.proofs.Listed.{Each, Pairs, each_two, each_weaker, none_not_some, some_same}
 use Rattle.wh_trace.proofs.Viewing.{IsBefore}
 use Rattle.wh_trace.proofs.Tested.{both_left, both_right}
 
--- what a chosen view meets
+-- what a chosen view meets: it is over tables, with the query's own text, and E8 and E9 hold where no table is joined back
 pub record Meets (q : StarQuery) (text : List Token) (c : Catalog) (v : View) (back : List Back) : Type 0 where
-  pub full : match_text text (query_tokens v.def.text) ≡ FullText
+  pub over : v.def.beneath ≡ None
+  pub full : match_text text v.def.tokens ≡ FullText
   pub alone : back ≡ []
-  pub fresh : is_fresh_enough c q v ≡ true
+  pub fresh : is_fresh_enough c q [] v ≡ true
   pub built : is_some v.point ≡ true
   pub now : is_none q.as_of ≡ true
 
@@ -50,40 +54,47 @@ matched_full defs q v PartialText e = by (partial_holds defs q v.def.query) e
     by false f = absurd (cc)
 matched_full defs q v NoText e = absurd (cc)
 
-text_full : (defs : List TableDef) (q : StarQuery) (text : List Token) (v : View) (o : Option (List Token)) → option_and_then (λ given. class_by defs q v (match_text text given)) o ≡ Some Full
-    → match_text text (unwrap_or o []) ≡ FullText
-text_full defs q text v None e = absurd (cc)
-text_full defs q text v (Some given) e = matched_full defs q v (match_text text given) e
+-- a view with a text is over tables, and the text is its own
+text_full : (defs : List TableDef) (q : StarQuery) (text : List Token) (v : View) (o : Option ℕ) → v.def.beneath ≡ o
+    → option_and_then (λ given. class_by defs q v (match_text text given)) (cond (is_some o) None (Some v.def.tokens)) ≡ Some Full → (v.def.beneath ≡ None) × (match_text text v.def.tokens ≡ FullText)
+text_full defs q text v None is e = (is, matched_full defs q v (match_text text v.def.tokens) e)
+text_full defs q text v (Some n) is e = absurd (cc)
 
 -- ---- the standing
 
 abbrev candidate_of : Standing → View → ℕ → Option Candidate
 candidate_of s v size = option_and_then (λ class. where_true (class_is_built class) (record { view = v; class = class; back = back_of s; size = size })) (class_of s)
 
+-- what fails, or stands for its fresh keys alone, is no candidate, since that class isn't built
+failing_none : (may : Bool) (e : Requirement) (v : View) (size : ℕ) → candidate_of (or_concat may (Failing e)) v size ≡ None
+failing_none true e v size = refl
+failing_none false e v size = refl
+
 -- without a text match no class is built
-general_none : (failed : Option ℕ) (back : List Back) (v : View) (size : ℕ) → candidate_of (standing_unless failed (general_class back) back) v size ≡ None
-general_none (Some n) back v size = refl
-general_none None [] v size = refl
-general_none None (b ∷ bs) v size = refl
+general_none : (may : Bool) (failed : Option Requirement) (back : List Back) (v : View) (size : ℕ) → candidate_of (or_concat may (standing_unless failed (general_class back) back)) v size ≡ None
+general_none may (Some e) back v size = failing_none may e v size
+general_none may None [] v size = refl
+general_none may None (b ∷ bs) v size = refl
 
 -- a candidate by a text match is full, and nothing fails
-record Fits (t : Option ℕ) (class : Class) (v : View) (x : Candidate) : Type 0 where
+record Fits (t : Option Requirement) (class : Class) (v : View) (x : Candidate) : Type 0 where
   passes : t ≡ None
   full : class ≡ Full
   view : v ≡ x.view
   alone : x.back ≡ []
 
-fits : (t : Option ℕ) (class : Class) (v : View) (size : ℕ) (x : Candidate) → candidate_of (standing_unless t class []) v size ≡ Some x → Fits t class v x
-fits (Some n) class v size x e = absurd (none_not_some x e)
-fits None Full v size x e =
+fits : (may : Bool) (t : Option Requirement) (class : Class) (v : View) (size : ℕ) (x : Candidate) → candidate_of (or_concat may (standing_unless t class [])) v size ≡ Some x → Fits t class v x
+fits may (Some r) class v size x e = absurd (none_not_some x (sym (failing_none may r v size) ∙ e))
+fits may None Full v size x e =
     let same : record { view = v; class = Full; back = []; size = size } ≡ x = some_same (record { view = v; class = Full; back = []; size = size }) x e in
     record { passes = refl; full = refl; view = ap (λ (y : Candidate). y.view) same; alone = sym (ap (λ (y : Candidate). y.back) same) }
-fits None Partial v size x e = absurd (none_not_some x e)
-fits None General v size x e = absurd (none_not_some x e)
-fits None JoinBack v size x e = absurd (none_not_some x e)
+fits may None Partial v size x e = absurd (none_not_some x e)
+fits may None General v size x e = absurd (none_not_some x e)
+fits may None JoinBack v size x e = absurd (none_not_some x e)
+fits may None Concat v size x e = absurd (none_not_some x e)
 
 -- nothing fails of E8 and E9
-time_passes : (a b : Bool) → first_some (failing 8 a ∷ failing 9 b ∷ []) ≡ None → (a ≡ true) × (b ≡ true)
+time_passes : (a b : Bool) → first_some (failing requirement.E8 a ∷ failing requirement.E9 b ∷ []) ≡ None → (a ≡ true) × (b ≡ true)
 time_passes true true e = (refl, refl)
 time_passes true false e = absurd (cc)
 time_passes false b e = absurd (cc)
@@ -92,27 +103,31 @@ module _ (c : Catalog) (q : StarQuery) (text : List Token) (enabled : Bool) wher
   abbrev IsMet : Candidate → Type 0
   IsMet x = Meets q text c x.view x.back
 
-  candidate_meets : (v : View) (x : Candidate) → candidate c q text Enforced enabled v ≡ Some x → (v ≡ x.view) × IsMet x
+  candidate_meets : (v : View) (x : Candidate) → candidate class_is_built c q text Enforced enabled v ≡ Some x → (v ≡ x.view) × IsMet x
   candidate_meets v x e = by (text_class (defs_now c) q text v) refl e
     where
+      may : Bool
+      may = concat_holds c q Enforced enabled v
+
       back : List Back
       back = (reach (defs_now c) c.dimensions Enforced q v.def.query).back
 
-      failed : Option ℕ
-      failed = first_some (form_failure c q Enforced v (reach (defs_now c) c.dimensions Enforced q v.def.query) ∷ time_failure c q Enforced enabled v ∷ [])
+      failed : Option Requirement
+      failed = first_some (form_failure c q Enforced v (reach (defs_now c) c.dimensions Enforced q v.def.query) ∷ time_failure c q Enforced enabled back v ∷ [])
 
       by : (o : Option Class) → text_class (defs_now c) q text v ≡ o
-          → candidate_of (option_case o (standing_unless failed (general_class back) back) (λ class. standing_unless (time_failure c q Enforced enabled v) class [])) v (length (content c v)) ≡ Some x
+          → candidate_of (or_concat may (option_case o (standing_unless failed (general_class back) back) (λ class. standing_unless (time_failure c q Enforced enabled [] v) class []))) v (length (content c v)) ≡ Some x
           → (v ≡ x.view) × IsMet x
-      by None is f = absurd (none_not_some x (sym (general_none failed back v (length (content c v))) ∙ f))
+      by None is f = absurd (none_not_some x (sym (general_none may failed back v (length (content c v))) ∙ f))
       by (Some class) is f =
-          let all : Fits (time_failure c q Enforced enabled v) class v x = fits (time_failure c q Enforced enabled v) class v (length (content c v)) x f in
-          let times = time_passes (holds_e8 c q Enforced v) (holds_e9 q enabled v) all.passes in
+          let all : Fits (time_failure c q Enforced enabled [] v) class v x = fits may (time_failure c q Enforced enabled [] v) class v (length (content c v)) x f in
+          let times = time_passes (holds_e8 c q Enforced [] v) (holds_e9 q enabled v) all.passes in
           let rest : (v.def.rewrite && (enabled && is_none q.as_of)) ≡ true = both_right (is_some v.point) (v.def.rewrite && (enabled && is_none q.as_of)) times.1 in
-          let full : text_class (defs_now c) q text v ≡ Some Full = is ∙ ap (λ (k : Class). Some k) all.full in
+          let own = text_full (defs_now c) q text v v.def.beneath refl (is ∙ ap (λ (k : Class). Some k) all.full) in
           let met : Meets q text c v x.back =
           record {
-            full = text_full (defs_now c) q text v (read_tokens v.def.text) full;
+            over = own.0;
+            full = own.1;
             alone = all.alone;
             fresh = times.0;
             built = both_left (is_some v.point) (v.def.rewrite && (enabled && is_none q.as_of)) times.1;
@@ -178,22 +193,22 @@ module _ (c : Catalog) (q : StarQuery) (text : List Token) (enabled : Bool) wher
   abbrev IsGood : Candidate → Type 0
   IsGood x = IsFound x.view × Meets q text c x.view x.back
 
-  candidate_good : (v : View) (x : Candidate) → IsFound v → candidate c q text Enforced enabled v ≡ Some x → IsGood x
+  candidate_good : (v : View) (x : Candidate) → IsFound v → candidate class_is_built c q text Enforced enabled v ≡ Some x → IsGood x
   candidate_good v x found e = let met = candidate_meets c q text enabled v x e in (subst IsFound met.0 found, met.1)
 
-  best_good : (x : Candidate) → Pairs IsBefore c.views → best c q text Enforced enabled ≡ Some x → IsGood x
+  best_good : (x : Candidate) → Pairs IsBefore c.views → best class_is_built c q text Enforced enabled ≡ Some x → IsGood x
   best_good x ordered e =
-      let candidates : List Candidate = filter_map (candidate c q text Enforced enabled) c.views in
+      let candidates : List Candidate = filter_map (candidate class_is_built c q text Enforced enabled) c.views in
       head_holds IsGood (sorted_by candidate_cmp candidates) x
-      (each_onto IsGood candidate_cmp [] candidates tt (each_given IsFound IsGood (candidate c q text Enforced enabled) candidate_good c.views (found_itself c.views ordered))) e
+      (each_onto IsGood candidate_cmp [] candidates tt (each_given IsFound IsGood (candidate class_is_built c q text Enforced enabled) candidate_good c.views (found_itself c.views ordered))) e
 
-  pub chosen : (p : ViewPlan) → Pairs IsBefore c.views → choice c q text Enforced enabled ≡ plan.View p → IsChosen c q text p
-  chosen p ordered e = by (best c q text Enforced enabled) refl e
+  pub chosen : (p : ViewPlan) → Pairs IsBefore c.views → choice class_is_built c q text Enforced enabled ≡ plan.View p → IsChosen c q text p
+  chosen p ordered e = by (best class_is_built c q text Enforced enabled) refl e
     where
       same_plan : (a : ViewPlan) → plan.View a ≡ plan.View p → a ≡ p
       same_plan a f = cc
 
-      by : (o : Option Candidate) → best c q text Enforced enabled ≡ o → option_case o plan.Base view_plan ≡ plan.View p → IsChosen c q text p
+      by : (o : Option Candidate) → best class_is_built c q text Enforced enabled ≡ o → option_case o plan.Base view_plan ≡ plan.View p → IsChosen c q text p
       by None is f = absurd (cc)
       by (Some x) is f =
           let good : IsGood x = best_good x ordered is in

@@ -1,5 +1,6 @@
 mod Sizes
 mod Stepping
+mod Switched
 mod Plain
 mod Texts
 mod Chosen

@@ -19,9 +19,9 @@ use Rattle.wh_base.specs.declared.tables.Kind.TheVariants as kind
 use Rattle.wh_base.specs.declared.tables.TableDef.{TableDef}
 use Rattle.wh_base.specs.declared.values.Interval.{Interval}
 use Rattle.wh_base.specs.declared.values.Literal.{Literal}
-use Rattle.wh_base.specs.declared.values.Literal.TheVariants.{Number, Quoted}
+use Rattle.wh_base.specs.declared.values.Literal.TheVariants.{Dated, Number, Quoted}
 use Rattle.wh_base.specs.declared.values.Value.{Value}
-use Rattle.wh_base.specs.declared.values.Value.TheVariants.{Null, Num, Ratio, Text}
+use Rattle.wh_base.specs.declared.values.Value.TheVariants.{Day, Null, Num, Ratio, Text}
 use Rattle.def_effect.specs.Block.{column_refusal, fits_kind}
 use Rattle.def_meaning.specs.Joined.{conditions_true, edge_true}
 use Rattle.def_meaning.specs.Ranges.{equal_columns, misses, query_range}
@@ -43,6 +43,7 @@ literal_plain : (l : Literal) → not (is_pair (literal_value l)) ≡ true
 literal_plain (Number n) = refl
 literal_plain (Quoted []) = refl
 literal_plain (Quoted (b ∷ bs)) = refl
+literal_plain (Dated n) = refl
 
 literals_plain : (ls : List Literal) → no_pairs (map literal_value ls) ≡ true
 literals_plain [] = refl
@@ -100,8 +101,10 @@ fits_plain : (k : Kind) (v : Value) → fits_kind k v ≡ true → is_pair v ≡
 fits_plain k (Num n) e = refl
 fits_plain k (Text t) e = refl
 fits_plain k Null e = refl
+fits_plain k (Day n) e = refl
 fits_plain (kind.Number p) (Ratio a) e = absurd (true≢false (sym e))
 fits_plain (kind.Text n) (Ratio a) e = absurd (true≢false (sym e))
+fits_plain kind.Date (Ratio a) e = absurd (true≢false (sym e))
 
 -- the value at a place of a row that fits its columns
 plain_at : (d : TableDef) (columns : List ColumnDef) (vs : List Value) (k : ℕ) → length vs ≡ length columns → first_of (column_refusal d) (zip columns vs) ≡ None → is_pair (value_at vs k) ≡ false

@@ -3,6 +3,7 @@ use Rattle.std.proofs.Common.{◌≡◌, ◌∙◌, sym, ap, refl, subst, arith,
 use Rattle.std.specs.List.{filter, list_all, list_any}
 use Rattle.std.specs.Prelude.{Ok, is_none, is_some, nat_abs, option_and_then, option_map, unwrap_or, zip, ℤ}
 use Rattle.std.proofs.lemmas.Bool.{eq-eqb, eqb-true}
+use Rattle.std.proofs.lemmas.List.{length-map}
 use Rattle.wh_base.specs.Lists.{first_of, option_case, sorted_by}
 use Rattle.wh_base.specs.Tables.{Base, Row, def_at, defs_of, row_at, table_at, value_at}
 use Rattle.wh_base.specs.declared.columns.ColPart.TheVariants.{Col}
@@ -24,8 +25,8 @@ use Rattle.wh_base.specs.declared.views.ViewPlan.{ViewPlan}
 use Rattle.wh_base.specs.declared.views.ViewState.{ViewState}
 use Rattle.wh_base.specs.declared.views.ViewState.TheVariants.{Fresh, Partly, Stale, Unbuilt}
 use Rattle.wh_base.specs.declared.tokens.Token.{Token}
-use Rattle.def_choice.specs.Choice.{base_then, choice}
-use Rattle.def_choice.specs.Eligible.{is_fresh_enough}
+use Rattle.def_choice.specs.Choice.{base_then, choice, class_is_built}
+use Rattle.def_choice.specs.Eligible.{is_fresh_enough, leaves_tracked}
 use Rattle.def_grammar.specs.Query.{select}
 use Rattle.def_grammar.specs.Reading.{whole}
 use Rattle.def_history.specs.Catalog.{Catalog, View, base_at, base_now, defs_now}
@@ -40,14 +41,16 @@ use Rattle.def_restrictions.proofs.Union.{any_has}
 use Rattle.def_restrictions.specs.Definition.{is_tracked, selects_key, table_defs, tracked, tracked_key}
 use Rattle.def_restrictions.specs.Intervals.{union_of}
 use Rattle.def_restrictions.specs.Restrictions.{check_f1, check_p1, check_p2, check_p3, first_part_restriction, is_fresh, moved}
-use Rattle.def_rewriting.specs.Matching.{FullText, match_text, query_tokens}
+use Rattle.def_rewriting.specs.Matching.{FullText, match_text}
 use Rattle.wh_star.specs.Marked.{is_pair}
 use Rattle.wh_text_law.specs.Unordered.{unordered, without_order}
 use Rattle.wh_trace.proofs.Basing.{none_each, none_first, none_rest, none_where}
-use Rattle.wh_trace.proofs.Fitting.{AllFit, trace_fits}
+use Rattle.wh_trace.proofs.Defining.{def_still}
+use Rattle.wh_trace.proofs.Fitting.{trace_fits}
 use Rattle.wh_trace.proofs.Listed.{Each, each_found, each_made, each_map, each_unmap, each_weaker, or_first, or_second}
+use Rattle.wh_trace.proofs.Makings.{AllFit}
 use Rattle.wh_trace.proofs.Viewing.{trace_ordered}
-use Rattle.wh_trace.specs.Reached.{catalog_of}
+use Rattle.wh_trace.specs.Reached.{catalog_of, still}
 use Rattle.wh_trace.specs.Rows.{Fits}
 use Rattle.wh_trace.proofs.Tested.{both_left, both_right, was_false}
 use Rattle.wh_trace.proofs.Changes.{unmoved}
@@ -55,7 +58,7 @@ use Rattle.wh_view_law.proofs.Chosen.{IsChosen, chosen}
 use Rattle.wh_view_law.proofs.Misses.{missed_all, plain_query, plain_value}
 use Rattle.wh_trace.proofs.Sparing.{keeps, outside, same_kept, avoids_touches}
 use Rattle.wh_trace.proofs.Outside.{IsSame, fit_at, trace_outside}
-use Rattle.wh_view_law.proofs.Texts.{LaterTables, each_text, resolved_now}
+use Rattle.wh_view_law.proofs.Texts.{LaterTables, OverTables, each_text, resolved_now}
 use Rattle.wh_view_law.proofs.Tuples.{IsNeeded, Once, fewer, fewer_tuples, once_in}
 use Rattle.wh_view_law.specs.Laws.{Answers, IsOfText, Serves}
 use Rattle.wh_view_law.specs.Read.{AreRead}
@@ -139,8 +142,8 @@ module _ (trace : List Event) (v : View) (p : ℕ) (built : v.point ≡ Some p) 
   defs_are : table_defs v.def ≡ map with_def tables
   defs_are = ap (λ (defs : List TableDef). zip tables defs) k.defined ∙ zip_map (def_at k.tables) tables
 
-  still : (n : ℕ) → moved (known c v (with_def n)) ≡ false → rows_at (base_at c p) n ≡ rows_at (base_now c) n
-  still n e = sym (unmoved trace v p (with_def n) built e)
+  unchanged : (n : ℕ) → moved (known c v (with_def n)) ≡ false → rows_at (base_at c p) n ≡ rows_at (base_now c) n
+  unchanged n e = sym (unmoved trace v p (with_def n) built e)
 
   fresh_same : is_fresh (facts_of c v) ≡ true → tuples v.def.query (base_at c p) ≡ tuples v.def.query (base_now c)
   fresh_same e =
@@ -148,7 +151,7 @@ module _ (trace : List Event) (v : View) (p : ℕ) (built : v.point ≡ Some p) 
       let each : Each (λ n. moved (known c v (with_def n)) ≡ false) tables = each_unmap (λ t. moved (known c v t) ≡ false) with_def tables (subst (Each (λ t. moved (known c v t) ≡ false)) defs_are none) in
       ap (λ rows. filter (tuple_true v.def.query) (product rows))
       (map_same (rows_at (base_at c p)) (rows_at (base_now c)) tables
-      (each_weaker (λ n. moved (known c v (with_def n)) ≡ false) (λ n. rows_at (base_at c p) n ≡ rows_at (base_now c) n) still tables each))
+      (each_weaker (λ n. moved (known c v (with_def n)) ≡ false) (λ n. rows_at (base_at c p) n ≡ rows_at (base_now c) n) unchanged tables each))
 
   -- the tables but for the tracked one
   others_still : (t : ℕ × TableDef) → tracked v.def ≡ Some t → first_part_restriction (facts_of c v) ≡ None → Each (λ n. (n == t.0) ≡ false → rows_at (base_at c p) n ≡ rows_at (base_now c) n) tables
@@ -163,7 +166,7 @@ module _ (trace : List Event) (v : View) (p : ℕ) (built : v.point ≡ Some p) 
       let each : Each (λ n. check_p3 v.def (known c v (with_def n)) ≡ None) tables =
       each_unmap (λ x. check_p3 v.def (known c v x) ≡ None) with_def tables (subst (Each (λ x. check_p3 v.def (known c v x) ≡ None)) defs_are known_all) in
       each_weaker (λ n. check_p3 v.def (known c v (with_def n)) ≡ None) (λ n. (n == t.0) ≡ false → rows_at (base_at c p) n ≡ rows_at (base_now c) n)
-      (λ n passes apart. still n (unmoved_by n (moved (known c v (with_def n))) (none_where (not (is_tracked v.def n) && moved (known c v (with_def n))) (P3 n) passes) apart)) tables each
+      (λ n passes apart. unchanged n (unmoved_by n (moved (known c v (with_def n))) (none_where (not (is_tracked v.def n) && moved (known c v (with_def n))) (P3 n) passes) apart)) tables each
     where
       unmoved_by : (n : ℕ) (b : Bool) → (not (is_tracked v.def n) && b) ≡ false → (n == t.0) ≡ false → b ≡ false
       unmoved_by n b e apart =
@@ -177,9 +180,13 @@ module _ (trace : List Event) (v : View) (p : ℕ) (built : v.point ≡ Some p) 
       let def : t.1 ≡ def_at k.tables t.0 = each_found (λ x. x.1 ≡ def_at k.tables x.0) (λ x. is_some x.1.part_key) (table_defs v.def) t each is in
       let then : (def_at k.tables t.0).part_key ≡ Some key = ap (λ (d : TableDef). d.part_key) (sym def) ∙ keyed in
       let low : t.0 < length k.tables = key_within k.tables t.0 key then in
-      let now : (table_at (base_now c) t.0).def ≡ def_at k.tables t.0 =
-      def_of (base_now c) t.0 ∙ ap (λ (defs : List TableDef). def_at defs t.0) k.since ∙ def_earlier k.tables k.later t.0 low in
-      ap (λ (d : TableDef). d.part_key) now ∙ then
+      let many : length (map still k.tables) ≡ length k.tables = length-map k.tables still in
+      ap (λ (d : TableDef). d.part_key) (def_of (base_now c) t.0)
+      ∙ ap (λ (d : TableDef). d.part_key) (sym (def_still (defs_now c) t.0))
+      ∙ ap (λ (defs : List TableDef). (def_at defs t.0).part_key) k.since
+      ∙ ap (λ (d : TableDef). d.part_key) (def_earlier (map still k.tables) k.later t.0 (omega (arith, low, many)))
+      ∙ ap (λ (d : TableDef). d.part_key) (def_still k.tables t.0)
+      ∙ then
 
   partly_same : (t : ℕ × TableDef) (key : ℕ) → tracked v.def ≡ Some t → t.1.part_key ≡ Some key → first_part_restriction (facts_of c v) ≡ None
       → list_all (λ i. misses v.def.query (record { table = t.0; part = Col key }) i) (union_of (map (λ touch. touch.interval) (touches_of c t.0 p c.scn))) ≡ true
@@ -213,7 +220,7 @@ module _ (trace : List Event) (v : View) (p : ℕ) (built : v.point ≡ Some p) 
 abbrev enough : Catalog → StarQuery → View → ViewState → Bool
 enough c q v Unbuilt = false
 enough c q v Fresh = true
-enough c q v Partly = selects_key v.def && option_case (tracked_key v.def) false (λ key. list_all (λ i. misses q key i) (stale_intervals c v))
+enough c q v Partly = selects_key v.def && (option_case (tracked_key v.def) false (λ key. list_all (λ i. misses q key i) (stale_intervals c v)) && leaves_tracked v.def [])
 enough c q v Stale = false
 
 module _ (trace : List Event) (q : StarQuery) (v : View) (p : ℕ) (built : v.point ≡ Some p) (k : IsOfText (catalog_of trace) v) (same_query : unordered q ≡ unordered v.def.query) where
@@ -248,14 +255,15 @@ module _ (trace : List Event) (q : StarQuery) (v : View) (p : ℕ) (built : v.po
   by_state false true d unbuilt fresh none e = fresh_same trace v p built k fresh
   by_state false false true unbuilt fresh none e =
       by_tracked (was_none (first_part_restriction (facts_of now v)) none) (tracked v.def) refl
-      (both_right (selects_key v.def) (option_case (tracked_key v.def) false (λ key. list_all (λ i. misses q key i) (stale_intervals now v))) e)
+      (both_left (option_case (tracked_key v.def) false (λ key. list_all (λ i. misses q key i) (stale_intervals now v))) (leaves_tracked v.def [])
+      (both_right (selects_key v.def) (option_case (tracked_key v.def) false (λ key. list_all (λ i. misses q key i) (stale_intervals now v)) && leaves_tracked v.def []) e))
     where
       was_none : (o : Option Restriction) → is_none o ≡ true → o ≡ None
       was_none None h = refl
       was_none (Some x) h = absurd (true≢false (sym h))
   by_state false false false unbuilt fresh none e = absurd (true≢false (sym e))
 
-  current : is_fresh_enough now q v ≡ true → IsCurrent
+  current : is_fresh_enough now q [] v ≡ true → IsCurrent
   current e = by_state (is_none v.point) (is_fresh (facts_of now v)) (is_none (first_part_restriction (facts_of now v))) refl refl refl e
 
 -- ---- the law
@@ -280,14 +288,14 @@ asks_now c q e = by q.as_of e
     by (Some n) f = absurd (true≢false (sym f))
 
 serves : TextLaws → (trace : List Event) (text : List Token) (raw : RawQuery) (q : StarQuery) (enabled : Bool) (p : ViewPlan) → AreRead trace → whole select text ≡ Some raw
-    → resolve (defs_now (catalog_of trace)) raw ≡ Ok q → choice (catalog_of trace) q text Enforced enabled ≡ plan.View p → Serves (catalog_of trace) q p
+    → resolve (defs_now (catalog_of trace)) raw ≡ Ok q → choice class_is_built (catalog_of trace) q text Enforced enabled ≡ plan.View p → Serves (catalog_of trace) q p
 serves laws trace text raw q enabled p read reads resolved chooses =
     let c : Catalog = catalog_of trace in
     let x : IsChosen c q text p = chosen c q text enabled p (trace_ordered trace).ascending chooses in
     let v : View = x.view in
-    let k : IsOfText c v = each_found (IsOfText c) (λ w. w.def.view == p.view) c.views v (each_text trace read) x.found in
+    let k : IsOfText c v = each_found (OverTables c) (λ w. w.def.view == p.view) c.views v (each_text trace read) x.found x.meets.over in
     let r : StarQuery = v.def.query in
-    let parts : without_order raw ≡ without_order k.query = laws.parts text (query_tokens v.def.text) raw k.query x.meets.full reads k.reads in
+    let parts : without_order raw ≡ without_order k.query = laws.parts text v.def.tokens raw k.query x.meets.full reads k.reads in
     let same : unordered q ≡ unordered r = laws.stars (defs_now c) raw k.query q r parts resolved (resolved_now laws.later c v k) in
     let built = is_built v.point x.meets.built in
     let stands : stored r (base_at c built.0) ≡ stored r (base_now c) =

@@ -12,13 +12,13 @@ use Rattle.wh_base.specs.declared.replies.Refusal.TheVariants.{NameTaken, TooMan
 use Rattle.wh_base.specs.declared.statements.NewColumn.{NewColumn}
 use Rattle.wh_base.specs.declared.statements.NewTable.{NewTable}
 use Rattle.wh_base.specs.declared.statements.RawKind.{RawKind}
-use Rattle.wh_base.specs.declared.statements.RawKind.TheVariants.{Bytes, Digits}
+use Rattle.wh_base.specs.declared.statements.RawKind.TheVariants.{Bytes, Days, Digits}
 use Rattle.wh_base.specs.declared.tables.ColumnDef.{ColumnDef}
 use Rattle.wh_base.specs.declared.tables.TableDef.{TableDef}
 use Rattle.def_effect.specs.Define.{column_called, define_refusal, foreign_refusal, max_columns, max_objects, max_parts, new_column, new_column_refusal, new_columns, new_foreign, new_key_refusal, new_keys, new_kind, new_ranges, partitioning_refusal, size_holds}
 use Rattle.def_history.specs.Catalog.{base_now, defs_now}
 use Rattle.def_resolve.specs.Earlier.{first_after, first_in_turn}
-use Rattle.wh_trace.proofs.Basing.{KeepsBase, KeepsTable, base_holds, each_table, none_first, none_rest, none_where}
+use Rattle.wh_trace.proofs.Basing.{KeepsBase, KeepsTable, base_holds, each_table, made, made_of, none_first, none_rest, none_where}
 use Rattle.wh_trace.proofs.Listed.{all_from, each_map}
 use Rattle.wh_trace.proofs.Untouched.{with_length}
 use Rattle.wh_trace.specs.Reached.{catalog_of}
@@ -67,11 +67,10 @@ keep_few =
     record {
       none = omega arith;
       asked = λ kept p s a passes h.
-          let same : length (with_table p.base a.table (table_after (table_at p.base a.table) a.changes)) ≡ length p.base =
-          with_length p.base a.table (table_after (table_at p.base a.table) a.changes) in
+          let same : length (made p.base a) ≡ length p.base = with_length p.base a.table (table_after (table_at p.base a.table) (made_of p.base a)) in
           omega (arith, same, h);
       created = λ taken base t none h. one_more taken base t _ none;
-      cut = λ base n change a same h. let many : length (with_table base n a.table) ≡ length base = with_length base n a.table in omega (arith, many, h);
+      cut = λ kept base n change a same h. let many : length (with_table base n a.table) ≡ length base = with_length base n a.table in omega (arith, many, h);
     }
 
 -- ---- the columns of a new table
@@ -92,6 +91,7 @@ sized_bytes (negsuc n) e = absurd (cc)
 sized_kind : (k : RawKind) → size_holds k ≡ true → is_sized (of_kind k) ≡ true
 sized_kind (Digits n) e = sized_digits n e
 sized_kind (Bytes n) e = sized_bytes n e
+sized_kind Days e = refl
 
 sized_column : (table : List ℕ) (earlier : List NewColumn) (s : NewTable) (c : NewColumn) → new_column_refusal table earlier c ≡ None → is_sized (new_column s c) ≡ true
 sized_column table earlier s c none =
@@ -118,7 +118,13 @@ keep_sizes =
     record {
       asked = λ kept p s a passes same h. h;
       created = λ taken defs t none. sized_columns t.name t [] (new_columns t) (accepts taken defs t none).columns;
-      cut = record { adds = λ t r key none h. h; truncates = λ base n t p none h. h; drops = λ base n t p none h. h };
+      cut = record {
+        adds = λ t r key none h. h;
+        truncates = λ base n t p none h. h;
+        drops = λ base n t p none h. h;
+        regroups = λ kept t before after how h. h;
+        moves = λ t on h. h;
+      };
     }
 
 pub table_sizes : TableSizes

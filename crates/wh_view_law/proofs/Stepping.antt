@@ -1,9 +1,10 @@
--- What each event makes of the views, with the command that made it, and of what sessions have set.
+-- What each event makes of how many views were made, with the command that made one, and of what sessions have set.
 use Rattle.std.proofs.Common.{◌≡◌, ◌∙◌, sym, ap, refl, subst, ℕ, Bool, true, false, true≢false, not, cond, List, [], ◌∷◌, ◌++◌, length, Option, None, Some, nat_le, ◌==◌}
 use Rattle.std.specs.List.{filter}
 use Rattle.std.proofs.lemmas.Bool.{eqb-true}
 use Rattle.std.specs.Prelude.{Err, Ok, Result, int_lt, max, nat_abs, pos, ◌-◌}
-use Rattle.wh_base.specs.Lists.{change_where, first_some, has_text, option_case, same_text, unless, where_true, ◌>>=◌}
+use Rattle.wh_base.specs.Lists.{change_where, first_of, first_some, has_text, is_empty, option_case, same_text, unless, where_true, ◌>>=◌}
+use Rattle.wh_base.specs.Parts.{entry_bearer}
 use Rattle.wh_base.specs.Tables.{def_at}
 use Rattle.wh_base.specs.declared.queries.StarQuery.{StarQuery}
 use Rattle.wh_base.specs.declared.replies.Counted.TheVariants as counted
@@ -34,6 +35,7 @@ use Rattle.wh_base.specs.declared.statements.TableStatement.TheVariants.{AlterTa
 use Rattle.wh_base.specs.declared.statements.ViewStatement.{ViewStatement}
 use Rattle.wh_base.specs.declared.statements.ViewStatement.TheVariants.{AlterView, CreateView, DropView, Unregister}
 use Rattle.wh_base.specs.declared.replies.Reply.TheVariants as reply
+use Rattle.def_choice.specs.Choice.{class_is_built}
 use Rattle.def_dimensions.specs.Dimensions.{dimension_refusal, new_dimension}
 use Rattle.def_effect.specs.Block.{Progress, Stopped, effect, the_table}
 use Rattle.def_effect.specs.Define.{define_refusal, defined, max_objects}
@@ -45,27 +47,23 @@ use Rattle.def_journal.specs.Answers.{answer, by_query, explained, star_at}
 use Rattle.def_journal.specs.Committing.{after_block, commit, commit_result, do_dues}
 use Rattle.def_journal.specs.Explaining.{explain_view, show_log, show_view, shown, the_dimension, the_log, the_view, validated}
 use Rattle.def_journal.specs.Journal.{state_after}
-use Rattle.def_journal.specs.Refreshing.{Computed, asked_method, begin_refresh, begun_view, computed, ended, install_begun, install_computed, install_into, install_refresh, overtaken, refreshed_to}
+use Rattle.def_journal.specs.Listing.{all_refreshed, computed_list, install_list, install_named, install_over, install_views, list_installed, moved_refusal, names_refusal, reads_so_far, views_named}
+use Rattle.def_journal.specs.Nesting.{drop_refusal, nested_query, unbuilt_beneath, view_beneath}
+use Rattle.def_journal.specs.Refreshing.{Computed, Listed, begin_refresh, begun_view, change_view, computed_for, ended, install_begun, install_computed, install_into, install_refresh, new_point, overtaken, refreshed_to}
 use Rattle.def_journal.specs.State.{Begun, Session, State, Step, done_or_refused, image_of, next_scn, only_reads, refused, replied, session_of, with_base, with_catalog, with_session}
-use Rattle.def_journal.specs.Statements.{Outcome, altered, build_reads, change_named_view, fast_form_refusal, new_log, new_log_refusal, new_view, purged_or_refused, switched, unread, unregistered, with_view}
-use Rattle.def_journal.specs.Refreshing.{change_view}
-use Rattle.def_journal.specs.Steps.{dimension_change, log_change, other_step, purge_change, session_done, show_step, statement_step, step, table_change, view_change}
+use Rattle.def_journal.specs.Statements.{Outcome, altered, build_reads, change_named_view, create_over_tables, create_over_view, fast_form_refusal, nested_view, new_log, new_log_refusal, new_view, purged_or_refused, switched, unread, unregistered, with_view, without_view}
+use Rattle.def_journal.specs.Steps.{dimension_change, log_change, other_step, purge_change, session_done, show_step, statement_step, step, submit_step, submitted, table_change, view_change}
 use Rattle.def_resolve.specs.Resolve.{resolve}
-use Rattle.wh_trace.proofs.Moves.{KeepsView, own}
+use Rattle.wh_trace.proofs.Due.{dues_keep}
+use Rattle.wh_trace.proofs.Moves.{MakesView, Over, Plain, own}
 use Rattle.wh_trace.proofs.Outcomes.{EachOk, bind_ok, cond_step, option_step, unless_bind, unless_ok, unless_then_ok}
 use Rattle.wh_trace.proofs.Seated.{own_number, put_other, put_own}
 use Rattle.wh_view_law.specs.Laws.{is_setting}
 
--- what the event x makes of the views
+-- no view is made, or this one by this command
 pub data Shows (s : State) (x : Event) (d : Catalog) : Type 0 where
-  Leaves : d.views ≡ s.catalog.views → Shows s x d
-  Refreshes : (p : Progress) → d ≡ (do_dues (after_block s.catalog p) p.changes).catalog → Shows s x d
-  Makes : (v : NewView) (q : StarQuery) → x.command ≡ commands.Other (about.View (CreateView v)) → resolve (defs_now s.catalog) v.asked.query ≡ Ok q
-      → d ≡ with_view s.catalog (new_view s.catalog v q) → Shows s x d
-  Alters : (n : ℕ) (f : View → View) → KeepsView f → d.views ≡ change_where (λ v. v.def.view == n) f s.catalog.views → Shows s x d
-  Installs : (b : Begun) (then now : View) → (own s x).begun ≡ Some b → begun_view b ≡ Some then → view_numbered s.catalog then.def.view ≡ Some now
-      → d.views ≡ change_where (λ v. v.def.view == now.def.view) (refreshed_to b.image.scn) s.catalog.views → Shows s x d
-  Drops : (n : ℕ) → d.views ≡ filter (λ w. not (w.def.view == n)) s.catalog.views → Shows s x d
+  Leaves : d.views_made ≡ s.catalog.views_made → Shows s x d
+  Makes : (v : NewView) (w : View) → x.command ≡ commands.Other (about.View (CreateView v)) → MakesView s.catalog v w → d ≡ with_view s.catalog w → Shows s x d
 
 -- a session with the same settings and the same image
 pub record SameSettings (x y : Session) : Type 0 where
@@ -90,14 +88,14 @@ stays s x = record { views = Leaves refl; settings = λ other n. same_settings (
 -- the event's own session put as y
 puts : (s : State) (x : Event) (y : Session) (d : Catalog) → y.number ≡ (own s x).number → (is_setting x ≡ false → SameSettings (own s x) y) → Shows s x d
     → Seen s x (with_catalog (with_session s y) d)
-puts s x y d same settings views = record { views = views; settings = λ other n. by other n (x.entry.session == n) refl }
+puts s x y d same settings views = record { views = views; settings = λ other n. by other n (entry_bearer x.entry == n) refl }
   where
-    number : y.number ≡ x.entry.session
-    number = same ∙ own_number s x.entry.session
+    number : y.number ≡ entry_bearer x.entry
+    number = same ∙ own_number s (entry_bearer x.entry)
 
-    by : is_setting x ≡ false → (n : ℕ) (b : Bool) → (x.entry.session == n) ≡ b → SameSettings (session_of s n) (session_of (with_session s y) n)
+    by : is_setting x ≡ false → (n : ℕ) (b : Bool) → (entry_bearer x.entry == n) ≡ b → SameSettings (session_of s n) (session_of (with_session s y) n)
     by other n true e =
-        let is : x.entry.session ≡ n = eqb-true x.entry.session n e in
+        let is : entry_bearer x.entry ≡ n = eqb-true (entry_bearer x.entry) n e in
         subst (SameSettings (session_of s n)) (sym (put_own s y n (number ∙ is))) (subst (λ m. SameSettings (session_of s m) y) is (settings other))
     by other n false e = subst (SameSettings (session_of s n)) (sym (put_other s y n (ap (λ m. m == n) number ∙ e))) (same_settings (session_of s n))
 
@@ -115,7 +113,7 @@ table_leads s x (CreateTable t) =
     unless_bind (Left s x) (define_refusal (names_taken c) (defs_now c) t) (base_now c ++ defined (defs_now c) t ∷ []) (λ base. unread (with_base c base)) (λ none. Leaves refl)
 table_leads s x (AlterTable t) =
     let c : Catalog = s.catalog in
-    bind_ok (Left s x) (alter_table (base_now c) t) (λ a. unread (altered c a.0 a.1)) (λ a same. Leaves refl)
+    bind_ok (Left s x) (alter_table (kept_versions c) (base_now c) t) (λ a. Ok (altered c a.0 a.1, length a.1.renumbered)) (λ a same. Leaves refl)
 
 log_leads : (s : State) (x : Event) (l : LogStatement) → Leads s x (log_change s.catalog l)
 log_leads s x (CreateLog l) =
@@ -139,28 +137,41 @@ purge_leads s x (PurgeUndo n) =
     unless_ok (Left s x) (where_true (int_lt (pos c.scn) n) (FutureScn n c.scn))
     (record c { oldest = max c.oldest (nat_abs n) }, kept_versions c - versions_kept_above c (max c.oldest (nat_abs n))) (λ none. Leaves refl)
 
-named_leads : (s : State) (x : Event) (name : List ℕ) (f : View → View) → KeepsView f → Leads s x (change_named_view s.catalog name f)
-named_leads s x name f keeps =
-    bind_ok (Left s x) (the_view s.catalog name) (λ v. unread (change_view v.def.view f s.catalog)) (λ v e. Alters v.def.view f keeps refl)
+named_leads : (s : State) (x : Event) (name : List ℕ) (f : View → View) → Leads s x (change_named_view s.catalog name f)
+named_leads s x name f = bind_ok (Left s x) (the_view s.catalog name) (λ v. unread (change_view v.def.view f s.catalog)) (λ v e. Leaves refl)
 
--- the view as a CREATE makes it, once its query is resolved
-abbrev made : Catalog → NewView → StarQuery → Outcome
-made c v q = unless (fast_form_refusal c (new_view c v q)) (with_view c (new_view c v q), build_reads c (new_view c v q))
+-- the view as a CREATE makes it over tables, once its query is resolved, and over a view
+abbrev over_tables : Catalog → NewView → StarQuery → Outcome
+over_tables c v q = unless (fast_form_refusal c (new_view c v q)) (with_view c (new_view c v q), build_reads c (new_view c v q))
+
+abbrev over_view : Catalog → NewView → View → StarQuery → Outcome
+over_view c v u q = unless (unbuilt_beneath v u) (with_view c (nested_view c v u q), 0)
+
+made_leads : (s : State) (x : Event) (v : NewView) → x.command ≡ commands.Other (about.View (CreateView v)) → (o : Option View) → view_beneath s.catalog v.asked.query ≡ o
+    → Leads s x (option_case o (create_over_tables s.catalog v) (create_over_view s.catalog v))
+made_leads s x v is None beneath =
+    let c : Catalog = s.catalog in
+    bind_ok (Left s x) (resolve (defs_now c) v.asked.query) (λ q. over_tables c v q)
+    (λ q e. unless_ok (Left s x) (fast_form_refusal c (new_view c v q)) (with_view c (new_view c v q), build_reads c (new_view c v q))
+    (λ fit. Makes v (new_view c v q) is (Plain q e refl) refl))
+made_leads s x v is (Some u) beneath =
+    let c : Catalog = s.catalog in
+    bind_ok (Left s x) (nested_query v u) (λ q. over_view c v u q)
+    (λ q e. unless_ok (Left s x) (unbuilt_beneath v u) (with_view c (nested_view c v u q), 0)
+    (λ built. Makes v (nested_view c v u q) is (Over u q beneath e built refl) refl))
 
 view_leads : (s : State) (x : Event) (v : ViewStatement) → x.command ≡ commands.Other (about.View v) → Leads s x (view_change s.catalog v)
 view_leads s x (CreateView v) is =
     let c : Catalog = s.catalog in
     unless_then_ok (Left s x)
     (first_some (where_true (has_text (names_taken c) v.name) (NameTaken v.name) ∷ where_true (nat_le max_objects (length c.views)) (TooManyObjects counted.Views) ∷ []))
-    (resolve (defs_now c) v.asked.query >>= (λ q. made c v q))
-    (λ none. bind_ok (Left s x) (resolve (defs_now c) v.asked.query) (λ q. made c v q)
-    (λ q e. unless_ok (Left s x) (fast_form_refusal c (new_view c v q)) (with_view c (new_view c v q), build_reads c (new_view c v q))
-    (λ fit. Makes v q is e refl)))
-view_leads s x (AlterView v) is = named_leads s x v.name (switched v.rewrite) (record { def = λ v. refl; point = λ v. refl; registered = λ v e. e })
+    (option_case (view_beneath c v.asked.query) (create_over_tables c v) (create_over_view c v))
+    (λ none. made_leads s x v is (view_beneath c v.asked.query) refl)
+view_leads s x (AlterView v) is = named_leads s x v.name (switched v.rewrite)
 view_leads s x (DropView name) is =
     let c : Catalog = s.catalog in
-    bind_ok (Left s x) (the_view c name) (λ v. unread (record c { views = filter (λ w. not (w.def.view == v.def.view)) c.views })) (λ v e. Drops v.def.view refl)
-view_leads s x (Unregister name) is = named_leads s x name unregistered (record { def = λ v. refl; point = λ v. refl; registered = λ v e. absurd (true≢false (sym e)) })
+    bind_ok (Left s x) (the_view c name) (λ v. unless (drop_refusal c v) (without_view c v, 0)) (λ v e. unless_ok (Left s x) (drop_refusal c v) (without_view c v, 0) (λ free. Leaves refl))
+view_leads s x (Unregister name) is = named_leads s x name unregistered
 
 dimension_leads : (s : State) (x : Event) (d : DimensionStatement) → Leads s x (dimension_change s.catalog d)
 dimension_leads s x (CreateDimension d) =
@@ -214,41 +225,65 @@ show_seen s x c (ValidateDimension name) = shown_seen s x (the_dimension c name)
 abbrev ended_session : State → Event → Session
 ended_session s x = record (own s x) { begun = None }
 
+ends_as : (s : State) (x : Event) (d : Catalog) → d.views_made ≡ s.catalog.views_made → Seen s x (with_catalog (ended s (own s x)) d)
+ends_as s x d made = puts s x (ended_session s x) d refl (λ other. record { level = refl; rewrite = refl; reading = refl }) (Leaves made)
+
 ended_seen : (s : State) (x : Event) → Seen s x (ended s (own s x))
-ended_seen s x = puts s x (ended_session s x) s.catalog refl (λ other. record { level = refl; rewrite = refl; reading = refl }) (Leaves refl)
+ended_seen s x = ends_as s x s.catalog refl
 
 abbrev into_step : State → Begun → Computed → View → Option Refusal → Step
 into_step s b y now (Some code) = refused s y.read code
 into_step s b y now None =
-    replied (with_catalog s (change_view now.def.view (refreshed_to b.image.scn) s.catalog))
-    (reply.Refresh (record { method = y.used; scn = b.image.scn; read = y.read; holds = length y.rows }))
+    replied (with_catalog s (change_view now.def.view (refreshed_to (new_point b.image [] now)) s.catalog))
+    (reply.Refresh (record { method = y.used; scn = new_point b.image [] now; read = y.read; holds = length y.rows }))
 
-module _ (s : State) (x : Event) (b : Begun) (begun : (own s x).begun ≡ Some b) where
-  into_seen : (y : Computed) (then now : View) → begun_view b ≡ Some then → view_numbered s.catalog then.def.view ≡ Some now → (o : Option Refusal)
-      → Seen s x (into_step (ended s (own s x)) b y now o).state
-  into_seen y then now was is (Some code) = ended_seen s x
-  into_seen y then now was is None =
-      puts s x (ended_session s x) (change_view now.def.view (refreshed_to b.image.scn) s.catalog) refl (λ other. record { level = refl; rewrite = refl; reading = refl })
-      (Installs b then now begun was is refl)
+into_seen : (s : State) (x : Event) (b : Begun) (y : Computed) (now : View) (o : Option Refusal) → Seen s x (into_step (ended s (own s x)) b y now o).state
+into_seen s x b y now (Some code) = ended_seen s x
+into_seen s x b y now None = ends_as s x (change_view now.def.view (refreshed_to (new_point b.image [] now)) s.catalog) refl
 
-  computed_seen : (name : List ℕ) (then : View) → begun_view b ≡ Some then → (r : Result Computed Refusal) → Seen s x (install_computed (ended s (own s x)) name b then r).state
-  computed_seen name then was (Err code) = ended_seen s x
-  computed_seen name then was (Ok y) =
-      option_step (Seen s x) (view_numbered s.catalog then.def.view) (refused (ended s (own s x)) y.read (NoSuchObject name)) (install_into (ended s (own s x)) name b y)
-      (ended_seen s x) (λ now is. into_seen y then now was is (overtaken name b now))
+computed_seen : (s : State) (x : Event) (b : Begun) (name : List ℕ) (then : View) (r : Result Computed Refusal) → Seen s x (install_computed (ended s (own s x)) name b then r).state
+computed_seen s x b name then (Err code) = ended_seen s x
+computed_seen s x b name then (Ok y) =
+    option_step (Seen s x) (view_numbered s.catalog then.def.view) (refused (ended s (own s x)) y.read (NoSuchObject name)) (install_into (ended s (own s x)) name b y)
+    (ended_seen s x) (λ now is. into_seen s x b y now (overtaken name b now))
 
-  begun_seen : (r : RefreshView) → Seen s x (install_begun (ended s (own s x)) r b).state
-  begun_seen r =
-      option_step (Seen s x) (begun_view b) (refused (ended s (own s x)) 0 (NoSuchObject r.name)) (λ v. install_computed (ended s (own s x)) r.name b v (computed b.image v (asked_method r v)))
-      (ended_seen s x) (λ v was. computed_seen r.name v was (computed b.image v (asked_method r v)))
+begun_seen : (s : State) (x : Event) (b : Begun) (r : RefreshView) → Seen s x (install_begun (ended s (own s x)) r b).state
+begun_seen s x b r =
+    option_step (Seen s x) (begun_view b) (refused (ended s (own s x)) 0 (NoSuchObject r.name)) (λ v. install_computed (ended s (own s x)) r.name b v (computed_for b.image [] r v))
+    (ended_seen s x) (λ v was. computed_seen s x b r.name v (computed_for b.image [] r v))
 
-install_seen : (s : State) (x : Event) (r : RefreshView) → Seen s x (install_refresh s (own s x) r).state
-install_seen s x r =
-    cond_step (Seen s x) (only_reads (own s x)) (refused (ended s (own s x)) 0 OnlyReading)
-    (option_case (own s x).begun (refused s 0 (NoSuchObject r.name)) (install_begun (ended s (own s x)) r))
+all_made : (done : List Listed) (c : Catalog) → (all_refreshed done c).views_made ≡ c.views_made
+all_made [] c = refl
+all_made (l ∷ done) c = all_made done (change_view l.view.def.view (refreshed_to l.point) c)
+
+views_seen : (s : State) (x : Event) (image : Catalog) (views : List View) (r : Result (List Listed) (ℕ × Refusal)) → Seen s x (install_views (ended s (own s x)) image views r).state
+views_seen s x image views (Err p) = ended_seen s x
+views_seen s x image views (Ok done) = by (first_of (moved_refusal s.catalog) views)
+  where
+    by : (o : Option Refusal) → Seen s x (option_case o (list_installed (ended s (own s x)) image views done) (refused (ended s (own s x)) (reads_so_far done))).state
+    by (Some code) = ended_seen s x
+    by None = ends_as s x (all_refreshed done s.catalog) (all_made done s.catalog)
+
+over_seen : (s : State) (x : Event) (image : Catalog) (r : RefreshView) → Seen s x (install_over (ended s (own s x)) r image).state
+over_seen s x image r = by (names_refusal image r)
+  where
+    by : (o : Option Refusal) → Seen s x (option_case o (install_views (ended s (own s x)) image (views_named image r) (computed_list image r)) (refused (ended s (own s x)) 0)).state
+    by (Some code) = ended_seen s x
+    by None = views_seen s x image (views_named image r) (computed_list image r)
+
+-- an install over what was begun, or its refusal
+install_seen : (s : State) (x : Event) (r : RefreshView) (over : Begun → Step) → ((b : Begun) → Seen s x (over b).state)
+    → Seen s x (cond (only_reads (own s x)) (refused (ended s (own s x)) 0 OnlyReading) (option_case (own s x).begun (refused s 0 (NoSuchObject r.name)) over)).state
+install_seen s x r over h =
+    cond_step (Seen s x) (only_reads (own s x)) (refused (ended s (own s x)) 0 OnlyReading) (option_case (own s x).begun (refused s 0 (NoSuchObject r.name)) over)
     (λ reads. ended_seen s x)
-    (λ writes. option_step (Seen s x) (own s x).begun (refused s 0 (NoSuchObject r.name)) (install_begun (ended s (own s x)) r) (stays s x)
-    (λ b begun. begun_seen s x b begun r))
+    (λ writes. option_step (Seen s x) (own s x).begun (refused s 0 (NoSuchObject r.name)) over (stays s x) (λ b begun. h b))
+
+named_seen : (s : State) (x : Event) (r : RefreshView) → Seen s x (install_named s (own s x) r).state
+named_seen s x r =
+    cond_step (Seen s x) (is_empty r.more) (install_refresh s (own s x) r) (install_list s (own s x) r)
+    (λ one. install_seen s x r (install_begun (ended s (own s x)) r) (λ b. begun_seen s x b r))
+    (λ many. install_seen s x r (λ b. install_over (ended s (own s x)) r b.image) (λ b. over_seen s x b.image r))
 
 begin_seen : (s : State) (x : Event) (r : RefreshView) → Seen s x (begin_refresh s (own s x) r)
 begin_seen s x r = puts s x _ s.catalog refl (λ other. record { level = refl; rewrite = refl; reading = refl }) (Leaves refl)
@@ -272,8 +307,8 @@ setting_seen s x ReadOnly is =
     (puts s x (record (own s x) { reading = Some s.catalog }) s.catalog refl (sets x ReadOnly is) (Leaves refl))
 
 other_seen : (s : State) (x : Event) (statement : Statement) → x.command ≡ commands.Other statement → Seen s x (other_step s (own s x) statement).state
-other_seen s x (about.Select a) is = query_seen s x (image_of s (own s x)) a (answer (image_of s (own s x)) (own s x) a)
-other_seen s x (about.ExplainQuery a) is = query_seen s x (image_of s (own s x)) a (explained (image_of s (own s x)) (own s x) a)
+other_seen s x (about.Select a) is = query_seen s x (image_of s (own s x)) a (answer class_is_built (image_of s (own s x)) (own s x) a)
+other_seen s x (about.ExplainQuery a) is = query_seen s x (image_of s (own s x)) a (explained class_is_built (image_of s (own s x)) (own s x) a)
 other_seen s x (about.Show what) is = show_seen s x (image_of s (own s x)) what
 other_seen s x (about.Session setting) is = setting_seen s x setting is
 other_seen s x (about.Table t) is = guarded s x (done_or_refused s (table_change s.catalog t)) (done_seen s x (table_change s.catalog t) (table_leads s x t))
@@ -286,9 +321,13 @@ other_seen s x (about.Change c) is = guarded s x (record { state = s; reply = No
 
 statement_seen : (s : State) (x : Event) (statement : Statement) → x.command ≡ commands.Other statement → Seen s x (statement_step s (own s x) x.entry.part statement).state
 statement_seen s x (about.Refresh r) is =
-    cond_step (Seen s x) (x.entry.part == 1) (record { state = begin_refresh s (own s x) r; reply = None }) (install_refresh s (own s x) r)
-    (λ part. begin_seen s x r) (λ part. install_seen s x r)
+    cond_step (Seen s x) (x.entry.part == 1) (record { state = begin_refresh s (own s x) r; reply = None }) (install_named s (own s x) r)
+    (λ part. begin_seen s x r) (λ part. named_seen s x r)
 statement_seen s x statement is = other_seen s x statement is
+
+-- a commit and the refreshes at it make no view
+dues_made : (c : Catalog) (p : Progress) → (do_dues (after_block c p) p.changes).catalog.views_made ≡ c.views_made
+dues_made c p = dues_keep (λ d. d.views_made ≡ c.views_made) (record { suspends = λ d n h. h; refreshes = λ d n h. h }) (after_block c p) p.changes refl
 
 commit_seen : (s : State) (x : Event) (b : Block) → Seen s x (commit s (own s x) b).state
 commit_seen s x b =
@@ -296,11 +335,23 @@ commit_seen s x b =
   where
     by : (r : Result Progress Stopped) → Seen s x (commit_result s r).state
     by (Err stopped) = stays s x
-    by (Ok p) = leaves s x _ (Refreshes p refl)
+    by (Ok p) = leaves s x _ (Leaves (dues_made s.catalog p))
 
-command_seen : (s : State) (x : Event) (command : Command) → x.command ≡ command → Seen s x (step s x.entry.session command x.entry.part).state
+submitted_seen : (s : State) (x : Event) → Seen s x (submitted s (own s x)).state
+submitted_seen s x = guarded s x (replied s reply.Submit) (stays s x)
+
+submit_seen : (s : State) (x : Event) (statement : Statement) → Seen s x (submit_step s (own s x) x.entry.part statement).state
+submit_seen s x (about.Refresh r) =
+    cond_step (Seen s x) (x.entry.part == 1) (submitted s (own s x)) (cond (x.entry.part == 2) (record { state = begin_refresh s (own s x) r; reply = None }) (install_named s (own s x) r))
+    (λ first. submitted_seen s x)
+    (λ later. cond_step (Seen s x) (x.entry.part == 2) (record { state = begin_refresh s (own s x) r; reply = None }) (install_named s (own s x) r)
+    (λ part. begin_seen s x r) (λ part. named_seen s x r))
+submit_seen s x statement = submitted_seen s x
+
+command_seen : (s : State) (x : Event) (command : Command) → x.command ≡ command → Seen s x (step s (entry_bearer x.entry) command x.entry.part).state
 command_seen s x (commands.Block b) is = commit_seen s x b
 command_seen s x (commands.Other statement) is = statement_seen s x statement is
+command_seen s x (commands.Submit statement) is = submit_seen s x statement
 
 -- what each event leaves
 pub seen : (s : State) (x : Event) → Seen s x (state_after s x)

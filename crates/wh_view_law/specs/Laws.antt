@@ -14,11 +14,11 @@ use Rattle.wh_base.specs.declared.statements.Statement.{Statement}
 use Rattle.wh_base.specs.declared.statements.Statement.TheVariants as about
 use Rattle.wh_base.specs.declared.tables.ColumnDef.{ColumnDef}
 use Rattle.wh_base.specs.declared.tables.Kind.{Kind}
-use Rattle.wh_base.specs.declared.tables.Kind.TheVariants.{Number, Text}
+use Rattle.wh_base.specs.declared.tables.Kind.TheVariants.{Date, Number, Text}
 use Rattle.wh_base.specs.declared.tables.TableDef.{TableDef}
 use Rattle.wh_base.specs.declared.views.Plan.TheVariants as plan
 use Rattle.wh_base.specs.declared.views.ViewPlan.{ViewPlan}
-use Rattle.def_choice.specs.Choice.{base_then, choice}
+use Rattle.def_choice.specs.Choice.{base_then, choice, class_is_built}
 use Rattle.def_effect.specs.Define.{max_objects}
 use Rattle.def_grammar.specs.Query.{select}
 use Rattle.def_grammar.specs.Reading.{whole}
@@ -28,19 +28,19 @@ use Rattle.def_journal.specs.Journal.{state_of}
 use Rattle.def_journal.specs.State.{session_of}
 use Rattle.def_meaning.specs.Meaning.{in_order, meaning}
 use Rattle.def_resolve.specs.Resolve.{resolve}
-use Rattle.def_rewriting.specs.Matching.{query_tokens}
-use Rattle.wh_trace.specs.Reached.{catalog_of}
+use Rattle.wh_trace.specs.Reached.{catalog_of, still, stills}
 use Rattle.wh_view_law.specs.Read.{AreRead}
 
 -- ---- tables
 
--- The column holds numbers of 15 digits at most, or texts of 64 bytes at most.
+-- The column holds numbers of 15 digits at most, texts of 64 bytes at most, or days.
 abbrev pub is_sized : ColumnDef → Bool
 is_sized c = kind_is_sized c.kind
   where
     kind_is_sized : Kind → Bool
     kind_is_sized (Number p) = nat_le p 15
     kind_is_sized (Text n) = nat_le n 64
+    kind_is_sized Date = true
 
 pub record TableSizes : Type 0 where
   -- there are 64 tables at most
@@ -50,31 +50,31 @@ pub record TableSizes : Type 0 where
 
 -- ---- views
 
--- A view is what its text reads as, resolved over the tables that were there when it was made; and what it stores is of a time when these
--- were there.
+-- A view over tables is what its tokens read as, resolved over the tables that were there when it was made; and what it stores is of a time
+-- when these were there.
 pub record IsOfText (c : Catalog) (v : View) : Type 0 where
   pub query : RawQuery
   pub tables : List TableDef
   pub later : List TableDef
-  -- the tables of now are those of then, and later ones
-  pub since : defs_now c ≡ tables ++ later
-  pub reads : whole select (query_tokens v.def.text) ≡ Some query
+  -- the tables of now are those of then, but for their row movement, and later ones
+  pub since : stills c ≡ map still tables ++ later
+  pub reads : whole select v.def.tokens ≡ Some query
   pub resolved : resolve tables query ≡ Ok v.def.query
   -- the definitions that it keeps are those of its tables
   pub defined : v.def.tables ≡ map (def_at tables) v.def.query.tables
   -- its tables were there at its point
   pub there : ForSome v.point (λ p. length tables ≤ length (base_at c p))
 
--- The view's text resolves to its query over the tables of now.
+-- The view's tokens resolve to its query over the tables of now.
 pub record IsOfTextNow (c : Catalog) (v : View) : Type 0 where
   pub query : RawQuery
-  pub reads : whole select (query_tokens v.def.text) ≡ Some query
+  pub reads : whole select v.def.tokens ≡ Some query
   pub resolved : resolve (defs_now c) query ≡ Ok v.def.query
 
--- Where the text of each command reads as what the command asks, each view is of its text.
+-- Where the tokens of each command read as what the command asks, each view over tables is of its text.
 pub record ViewTexts : Type 0 where
-  pub views : (trace : List Event) → AreRead trace → All (IsOfText (catalog_of trace)) (catalog_of trace).views
-  pub now : (trace : List Event) → AreRead trace → All (IsOfTextNow (catalog_of trace)) (catalog_of trace).views
+  pub views : (trace : List Event) → AreRead trace → All (λ v. v.def.beneath ≡ None → IsOfText (catalog_of trace) v) (catalog_of trace).views
+  pub now : (trace : List Event) → AreRead trace → All (λ v. v.def.beneath ≡ None → IsOfTextNow (catalog_of trace) v) (catalog_of trace).views
 
 -- ---- answers
 
@@ -86,11 +86,11 @@ pub record Serves (c : Catalog) (q : StarQuery) (p : ViewPlan) : Type 0 where
   pub rows : meaning q (base_then c q) ≡ in_order q.order (map (λ e. e.row) (content c view))
   pub alone : p.back ≡ []
 
--- Where a view is chosen under ENFORCED for a query that its text reads as, the view serves the query.
+-- Where a view is chosen under ENFORCED, of the classes that are built, for a query that its tokens read as, the view serves the query.
 pub record Answers : Type 0 where
   pub chosen : (trace : List Event) (text : List Token) (raw : RawQuery) (q : StarQuery) (enabled : Bool) (p : ViewPlan) → AreRead trace
       → whole select text ≡ Some raw → resolve (defs_now (catalog_of trace)) raw ≡ Ok q
-      → choice (catalog_of trace) q text Enforced enabled ≡ plan.View p → Serves (catalog_of trace) q p
+      → choice class_is_built (catalog_of trace) q text Enforced enabled ≡ plan.View p → Serves (catalog_of trace) q p
 
 -- ---- sessions
 
@@ -105,6 +105,7 @@ is_setting e = command_sets e.command
     command_sets : Command → Bool
     command_sets (commands.Block b) = false
     command_sets (commands.Other statement) = statement_sets statement
+    command_sets (commands.Submit statement) = false
 
 -- Without such events each session has the settings that it began with, and no image of its own.
 pub record SessionsArePlain : Type 0 where

@@ -1,9 +1,8 @@
--- Commands whose queries are those that their texts read as.
+-- Commands whose queries are those that their tokens read as.
 use Rattle.std.specs.List.{All}
 use Rattle.std.specs.Prelude.{◌≡◌, List, Some}
 use Rattle.def_grammar.specs.Query.{select}
 use Rattle.def_grammar.specs.Reading.{whole}
-use Rattle.def_rewriting.specs.Matching.{query_tokens}
 use Rattle.wh_base.specs.declared.statements.Asked.{Asked}
 use Rattle.wh_base.specs.declared.statements.Command.{Command}
 use Rattle.wh_base.specs.declared.statements.Command.TheVariants as commands
@@ -13,13 +12,14 @@ use Rattle.wh_base.specs.declared.statements.Statement.TheVariants as about
 use Rattle.wh_base.specs.declared.statements.ViewStatement.{ViewStatement}
 use Rattle.wh_base.specs.declared.statements.ViewStatement.TheVariants.{CreateView}
 
--- the text that is kept with a query reads as this query, whole
+-- the tokens that are kept with a query read as this query, whole
 abbrev pub ReadsAs : Asked → Type 0
-ReadsAs a = whole select (query_tokens a.text) ≡ Some a.query
+ReadsAs a = whole select a.tokens ≡ Some a.query
 
--- so it is with what the command asks, where it asks a query
+-- so it is with what the command asks, where it asks a query; what is submitted is a refresh and asks none
 abbrev pub IsRead : Command → Type 0
 IsRead (commands.Block b) = Unit {0}
+IsRead (commands.Submit statement) = Unit {0}
 IsRead (commands.Other statement) = statement_is_read statement
   where
     view_is_read : ViewStatement → Type 0
