@@ -3,7 +3,7 @@ use Rattle.std.proofs.Common.{◌≡◌, ◌∙◌, sym, ap, refl, subst, ℕ, B
 use Rattle.std.specs.List.{filter}
 use Rattle.std.proofs.lemmas.Bool.{eqb-true}
 use Rattle.std.specs.Prelude.{Err, Ok, Result, int_lt, max, nat_abs, pos, ◌-◌}
-use Rattle.wh_base.specs.Lists.{change_where, first_of, first_some, has_text, is_empty, option_case, same_text, unless, where_true, ◌>>=◌}
+use Rattle.wh_base.specs.Lists.{change_where, first_of, first_some, has_text, is_empty, option_case, same_text, unless, where_true}
 use Rattle.wh_base.specs.Parts.{entry_bearer}
 use Rattle.wh_base.specs.Tables.{def_at}
 use Rattle.wh_base.specs.declared.queries.StarQuery.{StarQuery}

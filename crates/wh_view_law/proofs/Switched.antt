@@ -1,9 +1,9 @@
 -- A query resolves the same whether rows may move between the partitions of its tables or not, which ALTER TABLE switches.
-use Rattle.std.proofs.Common.{◌≡◌, ◌∙◌, ap, ap₂, refl, ℕ, zero, suc, ◌+◌, Bool, true, false, not, cond, codes, List, [], ◌∷◌, ◌++◌, length, map, Option, None, Some, nat_lt, ◌==◌, ◌&&◌, ◌||◌}
+use Rattle.std.proofs.Common.{◌≡◌, ◌∙◌, ap, ap₂, refl, ℕ, zero, suc, ◌+◌, Bool, true, false, not, cond, codes, List, [], ◌∷◌, length, map, Option, None, Some, nat_lt, ◌==◌, ◌&&◌, ◌||◌}
 use Rattle.std.specs.List.{cons_option, find, flat_map, list_any, position_or_len}
-use Rattle.std.specs.Prelude.{Result, filter_map, option_map, position, unwrap_or}
+use Rattle.std.specs.Prelude.{Result, filter_map, option_map, unwrap_or}
 use Rattle.std.proofs.lemmas.List.{length-map}
-use Rattle.wh_base.specs.Columns.{agg_columns, expr_columns}
+use Rattle.wh_base.specs.Columns.{agg_columns}
 use Rattle.wh_base.specs.Lists.{first_of, first_some, has_number, head, option_case, or_refuse, same_text, unless, unless_then, where_true, ◌>>=◌}
 use Rattle.wh_base.specs.Tables.{def_at, table_number}
 use Rattle.wh_base.specs.declared.columns.Agg.{Agg}
@@ -35,7 +35,7 @@ use Rattle.wh_base.specs.declared.tables.TableDef.{TableDef}
 use Rattle.wh_base.specs.declared.values.Literal.{Literal}
 use Rattle.wh_base.specs.declared.values.Literal.TheVariants.{Number}
 use Rattle.def_resolve.specs.Kinds.{IsNumber, Sort, agg_refusal, agg_sort, agrees, column_compare_refusal, column_sort, compare_refusal, condition_refusal, equal_refusal, expr_sort, is_plain, is_summed, is_too_long, literal_sort, misfit, misfit_literal, part_sort, printed_part, product_refusal, sum_refusal, summed_refusal, test_refusal}
-use Rattle.def_resolve.specs.Names.{Source, agg_names, called_by, column_in, column_named, column_of, item_at_position, name_refusal, name_text, names_refusal, no_column, order_refusal, query_names, source_of, sources_of, table_refusal, the_only}
+use Rattle.def_resolve.specs.Names.{Source, agg_names, called_by, column_in, column_named, name_refusal, name_text, names_refusal, no_column, order_refusal, query_names, source_of, sources_of, table_refusal, the_only}
 use Rattle.def_resolve.specs.Resolve.{first_table, grouping_holds, join_of_table, joins_of, kinds_refusal, order_kind_refusal, resolve, resolved_agg, resolved_item, star_form, star_query, what_refusal}
 use Rattle.def_resolve.specs.Star.{Tree, branch_to, directed, grow, is_key_column, is_repeated_number, leads_to, next_branch, spanning, star_of, turned, with_branch}
 use Rattle.wh_trace.proofs.Defining.{def_still}

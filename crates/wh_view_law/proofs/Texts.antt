@@ -113,9 +113,6 @@ changed_each P n f keeps vs h = each_map P P (λ v. cond (v.def.view == n) (f v)
     by v false k = k
 
 -- one view alone has the number
-no_other : (n : ℕ) (vs : List View) → Each (λ w. n < w.def.view) vs → Each (λ w. (w.def.view == n) ≡ false) vs
-no_other n vs h = each_weaker (λ w. n < w.def.view) (λ w. (w.def.view == n) ≡ false) (λ w above. eq_false n w.def.view above) vs h
-
 only_one : (n : ℕ) (vs : List View) (now : View) → Pairs IsBefore vs → find (λ v. v.def.view == n) vs ≡ Some now → Each (λ v. (v.def.view == n) ≡ true → v ≡ now) vs
 only_one n [] now h found = tt
 only_one n (v ∷ vs) now h found = by (v.def.view == n) refl found (only_one n vs now h.1)
@@ -128,15 +125,6 @@ only_one n (v ∷ vs) now h found = by (v.def.view == n) refl found (only_one n 
           (λ w above k. absurd (true≢false (sym k ∙ eq_false n w.def.view (subst (λ m. m < w.def.view) (eqb-true v.def.view n e) above)))) vs h.0,
     )
     by false e f rest = (λ k. absurd (true≢false (sym k ∙ e)), rest f)
-
-changed_one : (P : View → Type 0) (n : ℕ) (f : View → View) (now : View) → (P (f now)) → (vs : List View) → Each (λ v. P v × ((v.def.view == n) ≡ true → v ≡ now)) vs
-    → Each P (map_changed n f vs)
-changed_one P n f now one vs h =
-    each_map (λ v. P v × ((v.def.view == n) ≡ true → v ≡ now)) P (λ v. cond (v.def.view == n) (f v) v) (λ v both. by v both (v.def.view == n) refl) vs h
-  where
-    by : (v : View) → P v × ((v.def.view == n) ≡ true → v ≡ now) → (b : Bool) → (v.def.view == n) ≡ b → P (cond b (f v) v)
-    by v both true e = subst (λ u. P (f u)) (sym (both.1 e)) one
-    by v both false e = both.0
 
 -- ---- views over tables
 
