@@ -88,11 +88,11 @@ in_calendar_there y m d h = (
 )
 
 -- where the kit has no such date, neither have we
-pub not_read : (y m d : ℕ) → (IsDate (pos y) (pos m) (pos d) → ⊥) → None ≡ day_of_date (Some (date y m d))
-not_read y m d no = by (is_date (date y m d)) refl
+pub not-read : (y m d : ℕ) → (IsDate (pos y) (pos m) (pos d) → ⊥) → None ≡ day_of_date (Some (date y m d))
+not-read y m d none = by (is_date (date y m d)) refl
   where
     by : (b : Bool) → is_date (date y m d) ≡ b → None ≡ where_true b (day_number (date y m d))
-    by true e = absurd (no (in_calendar_there y m d (civil_by (date y m d) e)))
+    by true e = absurd (none (in_calendar_there y m d (civil_by (date y m d) e)))
     by false e = refl
 
 read_number : (y m d : ℕ) → IsDate (pos y) (pos m) (pos d) → IsCivilDate (pos y) m d → where_true (is_day (days_from_civil (pos y) m d)) (days_from_civil (pos y) m d) ≡ day_of_date (Some (date y m d))
@@ -114,8 +114,8 @@ read-day y m d c h is =
 -- ---- printing
 
 shown : (y : ℤ) (m d : ℕ) → IsCivilDate y m d → is_day (days_from_civil y m d) ≡ true → date (unsigned_abs y) m d ≡ date_of (days_from_civil y m d)
-shown (pos zero) m d h e = let no = no_day (pos 0) m d h (omega (arith, signed_arith)) in cc
-shown (negsuc y) m d h e = let no = no_day (negsuc y) m d h (omega (arith, signed_arith)) in cc
+shown (pos zero) m d h e = let none = no_day (pos 0) m d h (omega (arith, signed_arith)) in cc
+shown (negsuc y) m d h e = let none = no_day (negsuc y) m d h (omega (arith, signed_arith)) in cc
 shown (pos (suc y)) m d h e =
     let ours : IsCivil (date (suc y) m d) = record {
       first_year = omega arith;
@@ -138,14 +138,6 @@ pub has-day : (n : ℤ) → IsTrue (is_day n) → IsEpochDay n
 has-day (pos a) h = grind (arith, ints, signed_arith)
 has-day (negsuc a) h = grind (arith, ints, signed_arith)
 
--- the digits of a year
-pub hundreds : (y : ℕ) → y / 100 % 10 ≡ y / 10 / 10 % 10
-hundreds y = omega arith
+pub ruleset reading = (not-read)
 
-pub thousands : (y : ℕ) → y / 1000 % 10 ≡ y / 10 / 10 / 10 % 10
-thousands y = omega arith
-
-pub digits_text : (y m d : ℕ) → (48 + y / 1000 % 10) ∷ (48 + y / 100 % 10) ∷ (48 + y / 10 % 10) ∷ (48 + y % 10) ∷ 45 ∷ (48 + m / 10 % 10) ∷ (48 + m % 10) ∷ 45 ∷ (48 + d / 10 % 10) ∷ (48 + d % 10) ∷ [] ≡ date_text (date y m d)
-digits_text y m d = rw (thousands y, hundreds y) refl
-
-pub ruleset reading = (not_read, read-day)
+pub ruleset printing = (has-day, shown-date)

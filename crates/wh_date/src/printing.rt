@@ -8,6 +8,7 @@ use wh_base::day::Day;
 use wh_base::txt::Txt;
 
 // The date of a day.
+#[tactic(auto, using(crate::proofs::Civil::printing))]
 fn date_of(day: Day) -> Date
     ensures { shown_date result ≡ date_of day }
 {
