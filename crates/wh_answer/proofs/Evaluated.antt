@@ -87,5 +87,7 @@ module _ (scn : ℕ) (tables : List Stored) (views : AllKept) (trace : List Even
   pub view_can : (texts : ViewTexts) (n : ℕ) (k : Kept) → find (is_numbered n) views.views ≡ Some k → CanAnswer scn tables (catalog_of trace) k.view.def.query
   view_can texts n k found =
       let there : view_numbered (catalog_of trace) n ≡ Some k.view = lookups.numbered scn tables views (catalog_of trace) n is.stands ∙ ap (option_map (λ (k : Kept). k.view)) found in
-      let text : IsOfTextNow (catalog_of trace) k.view = found_all (IsOfTextNow (catalog_of trace)) (λ v. v.def.view == n) (catalog_of trace).views k.view (texts.now trace is.read) there in
+      let over : k.view.def.beneath ≡ None = found_all (λ v. v.def.beneath ≡ None) (λ v. v.def.view == n) (catalog_of trace).views k.view is.stands.over_tables there in
+      let text : IsOfTextNow (catalog_of trace) k.view =
+      found_all (λ v. v.def.beneath ≡ None → IsOfTextNow (catalog_of trace) v) (λ v. v.def.view == n) (catalog_of trace).views k.view (texts.now trace is.read) there over in
       can_answer text.query k.view.def.query text.resolved
