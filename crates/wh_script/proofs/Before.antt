@@ -264,7 +264,7 @@ placed-earlier : (low high place : ℕ) (ts : List Token) → place ≤ low → 
 placed-earlier low high place [] h w = tt
 placed-earlier low high place (t ∷ ts) h w = (omega (arith, h, w.0), w.1, placed-earlier low high place ts h w.2)
 
-placed-before : (low high place : ℕ) (ts : List Token) → high ≤ place → ArePlaced low high ts → list_all (λ t. nat_lt t.start place) ts ≡ true
+pub placed-before : (low high place : ℕ) (ts : List Token) → high ≤ place → ArePlaced low high ts → list_all (λ t. nat_lt t.start place) ts ≡ true
 placed-before low high place [] h w = refl
 placed-before low high place (t ∷ ts) h w = and_from (nat_lt t.start place) (list_all (λ u. nat_lt u.start place) ts) (lt-ltb t.start place (omega (arith, h, w.1))) (placed-before low high place ts h w.2)
 

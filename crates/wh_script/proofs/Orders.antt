@@ -18,10 +18,10 @@ use Rattle.wh_script.specs.declared.fault.ScriptFault.{ScriptFault}
 use Rattle.wh_script.specs.declared.fault.ScriptFault.TheVariants as faults
 
 none_here : (line : ℕ) (done w : List ℕ) (ws : List (List ℕ)) → session_number w ≡ None → numbers_behind line done (w ∷ ws) ≡ Err (bad line (word_fault w))
-none_here line done w ws e = rw (e, e) refl
+none_here line done w ws e = rw e refl
 
 some_here : (line : ℕ) (done w : List ℕ) (ws : List (List ℕ)) (n : ℕ) → session_number w ≡ Some n → numbers_behind line (done ++ n ∷ []) ws ≡ numbers_behind line done (w ∷ ws)
-some_here line done w ws n e = rw (e, e) (by_test (list_any is_none (map session_number ws)))
+some_here line done w ws n e = rw e (by_test (list_any is_none (map session_number ws)))
   where
     by_test : (t : Bool) → cond t (Err (bad line (words_fault ws))) (Ok ((done ++ n ∷ []) ++ flat_map option_to_list (map session_number ws))) ≡ cond t (Err (bad line (words_fault ws))) (Ok (done ++ n ∷ flat_map option_to_list (map session_number ws)))
     by_test true = refl
@@ -177,7 +177,7 @@ order-refused d line (faults.Bad b) ws e = by_test (list_any is_none (map sessio
   where
     by_test : (t : Bool) → cond t (Err (bad line (words_fault ws))) (Ok (flat_map option_to_list (map session_number ws))) ≡ Err b
         → cond t (Err (bad line (words_fault ws))) (unless (order_fault (sections_of d) line (flat_map option_to_list (map session_number ws))) (with_order d (flat_map option_to_list (map session_number ws)))) ≡ Err b
-    by_test true k = k
+    by_test true k = let same : bad line (words_fault ws) ≡ b = cc in ap (λ x. Err x) same
     by_test false k = cc
 
 pub ruleset orders = (order-gives, order-refused)

@@ -4,7 +4,7 @@ use Rattle.def_grammar.specs.Forms.{tokens_or_none}
 use Rattle.def_grammar.specs.Script as script
 use Rattle.def_grammar.specs.Script.{Draft, Element, Stated, Unreadable, bad, line_at, read_from, text_elements, tokens_before, unclosed}
 use Rattle.std.specs.List.{list_all}
-use Rattle.std.specs.Prelude.{Bool, Err, List, None, Ok, Option, Result, Some, [], drop, map, nat_le, not, option_map, take, true, ℕ, ◌&&◌, ◌++◌, ◌∷◌, ◌≡◌, ◌≤◌}
+use Rattle.std.specs.Prelude.{Bool, Err, List, None, Ok, Option, Result, Some, [], drop, false, map, nat_le, not, option_map, take, true, ℕ, ◌&&◌, ◌++◌, ◌∷◌, ◌≡◌, ◌≤◌}
 use Rattle.wh_base.specs.Lists.{first_some, head, option_case}
 use Rattle.wh_base.specs.declared.statements.ScriptKind.{ScriptKind}
 use Rattle.wh_base.specs.declared.statements.ScriptKind.TheVariants.{NotUtf8}
