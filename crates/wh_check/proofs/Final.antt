@@ -1,14 +1,11 @@
 -- The second and the third step of a statement over tables without partitions.
 use Rattle.std.proofs.Common.{◌≡◌, ◌∙◌, ap, refl, ℕ, zero, suc, ◌+◌, false, not, ◌&&◌, List, [], ◌∷◌, length, map, Option, Some, None, ◌==◌, nat_lt}
-use Rattle.std.specs.List.{filter, list_any}
 use Rattle.std.specs.Prelude.{is_none, option_map}
-use Rattle.def_effect.specs.Block.{changed_row_refusal, child_refusal, enabled, final_refusal, is_orphaned, key_refusal, max_rows, max_versions, new_versions, parent_refusal}
+use Rattle.def_effect.specs.Block.{changed_row_refusal, child_refusal, enabled, final_refusal, key_refusal, max_rows, max_versions, new_versions, parent_refusal}
 use Rattle.wh_base.specs.Lists.{first_of, first_some, option_case, where_true}
-use Rattle.wh_base.specs.Tables.{Base, Table, TableChange, part_of_key, table_at, value_at, with_table}
+use Rattle.wh_base.specs.Tables.{Base, Table, TableChange, part_of_key, table_at, value_at}
 use Rattle.wh_base.specs.declared.replies.Refusal.{Refusal}
-use Rattle.wh_base.specs.declared.replies.Refusal.TheVariants.{ChildExists, NoPartition, RowMovement, TableFull, VersionsFull}
-use Rattle.wh_base.specs.declared.tables.ForeignDef.{ForeignDef}
-use Rattle.wh_base.specs.declared.tables.TableDef.{TableDef}
+use Rattle.wh_base.specs.declared.replies.Refusal.TheVariants.{NoPartition, RowMovement, TableFull, VersionsFull}
 use Rattle.wh_base.specs.declared.values.Value.{Value}
 use Rattle.wh_check.specs.Making.{AreWhole, change_refusal, changes_refusal}
 use Rattle.wh_check.specs.Rows.{row_refusal}

@@ -1,7 +1,7 @@
 -- A block over tables without partitions, statement by statement.
-use Rattle.std.proofs.Common.{◌≡◌, ◌∙◌, sym, ap, refl, subst, arith, ℕ, suc, ◌+◌, ◌*◌, ◌<◌, ◌≤◌, Bool, true, false, cond, ◌&&◌, ◌||◌, List, [], ◌∷◌, ◌++◌, length, drop, get_or, IsTrue, None, ◌==◌}
+use Rattle.std.proofs.Common.{◌≡◌, ◌∙◌, sym, ap, refl, subst, arith, ℕ, suc, ◌+◌, ◌*◌, ◌<◌, ◌≤◌, Bool, true, false, cond, ◌||◌, List, [], ◌∷◌, ◌++◌, length, drop, get_or, IsTrue, None, ◌==◌}
 use Rattle.std.proofs.lemmas.List.{drop_all, drop_more}
-use Rattle.std.specs.List.{All, list_all}
+use Rattle.std.specs.List.{All}
 use Rattle.std.specs.Prelude.{Err, Ok, Result}
 use Rattle.def_effect.specs.Block.{Progress, Stopped, effect, enabled, is_orphaned, max_rows, max_versions, run_statement, run_statements}
 use Rattle.wh_base.specs.Lists.{◌>>=◌}

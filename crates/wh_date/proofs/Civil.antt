@@ -1,8 +1,8 @@
 -- From the year 1 on the kit's calendar has the dates that ours has, and numbers their days alike.
-use Rattle.std.proofs.Common.{arith, rules, ap, refl, sym, subst, cond, ℕ, suc, zero, ◌%◌, ◌*◌, ◌+◌, ◌-◌, ◌/◌, ◌<◌, ◌≡◌, ◌≤◌, ◌∙◌, true, false, Bool}
+use Rattle.std.proofs.Common.{arith, rules, ap, refl, sym, ℕ, suc, zero, ◌+◌, ◌-◌, ◌<◌, ◌≡◌, ◌≤◌, ◌∙◌, true, false, Bool}
 use Rattle.std.proofs.lemmas.Bool.Decides.{nat_tests}
 use Rattle.std.proofs.lemmas.Int.{ints}
-use Rattle.std.specs.Prelude.{List, None, Option, Some, [], IsTrue, int_le, negsuc, pos, unsigned_abs, ℤ, ◌++◌, ◌-ℤ◌, ◌≤ℤ◌, ◌∷◌}
+use Rattle.std.specs.Prelude.{IsTrue, None, Some, negsuc, pos, unsigned_abs, ℤ, ◌-ℤ◌, ◌≤ℤ◌}
 use Rattle.jiff_core.proofs.CalendarLemmas.{day_count-epoch, day_count-lt_year}
 use Rattle.jiff_core.proofs.DateLemmas.{civil}
 use Rattle.jiff_core.proofs.MarchLemmas.{days_of_years-march_days, leap_day-shift}
@@ -11,9 +11,9 @@ use Rattle.jiff_core.specs.Calendar.{IsCivilDate, IsDate, IsEpochDay, day_count,
 use Rattle.jiff_core.specs.Date.{IsYmd, epoch_day}
 use Rattle.jiff_core.specs.March.{march_days}
 use Rattle.jiff_core.specs.declared.civil.date.Date.{Date as CivilDate}
-use Rattle.wh_base.proofs.Calendar.{IsCivil, civil_by, date_of_number, days_in_year-leap_day, is_date_by, leap_day, number_is_day, years_suc}
+use Rattle.wh_base.proofs.Calendar.{IsCivil, civil_by, date_of_number, days_in_year-leap_day, is_date_by, number_is_day, years_suc}
 use Rattle.wh_base.specs.DayTexts.{day_of_date}
-use Rattle.wh_base.specs.Days.{Date, date_of, date_text, day_number, days_before, days_in_month, days_of_months, days_of_years, is_date, is_day}
+use Rattle.wh_base.specs.Days.{Date, date_of, day_number, days_before, days_in_month, days_of_months, days_of_years, is_date, is_day}
 use Rattle.wh_base.specs.Lists.{where_true}
 use Rattle.wh_date.specs.Civil.{shown_date}
 
@@ -38,7 +38,7 @@ months_same y (suc n) = λ i. months_same y n i + month_same y (suc n) i
 
 -- ---- days
 
--- of a date from the year 1 on
+-- the date of a year, a month and a day
 abbrev pub date : ℕ → ℕ → ℕ → Date
 date y m d = record { year = y; month = m; day = d }
 

@@ -1,7 +1,6 @@
 -- What the code writes a query by.
 use Rattle.std.specs.Prelude.{List, codes, decimal, ◌++◌}
 use Rattle.def_grammar.specs.Canonical.{as_of_tokens, bare, comma, from_tokens, group_tokens, having_tokens, item_tokens, listed_tokens, named, order_by_tokens, where_tokens}
-use Rattle.wh_base.specs.Days.{day_text}
 use Rattle.wh_base.specs.declared.queries.RawQuery.{RawQuery}
 use Rattle.wh_base.specs.declared.tokens.Token.{Token}
 use Rattle.wh_base.specs.declared.tokens.TokenKind.TheVariants as tokens
@@ -12,7 +11,7 @@ use Rattle.wh_query_print.specs.declared.pieces.Piece.TheVariants.{Day, Number, 
 abbrev pub piece_token : Piece → Token
 piece_token (Spelled kind text) = bare kind text.now
 piece_token (Number n) = bare tokens.Number (decimal n)
-piece_token (Day n) = bare tokens.Text (day_text n)
+piece_token (Day text) = bare tokens.Text text
 
 -- SELECT, FROM and AS OF
 abbrev pub head_tokens : RawQuery → List Token

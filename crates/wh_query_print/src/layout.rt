@@ -7,7 +7,6 @@ use crate::pieces::Piece;
 use itoa::Buffer;
 use std::alloc::AllocError;
 use wh_base::tokens::TokenKind;
-use wh_date::day_bytes;
 
 // The piece is this mark.
 fn is_mark(piece: &Piece<'_>, text: &[u8]) -> bool
@@ -102,7 +101,7 @@ fn push_piece(out: &mut Vec<u8>, piece: &Piece<'_>) -> Result<(), AllocError>
             let mut buffer = Buffer::new();
             out.extend_from_slice(buffer.format(*number).as_bytes())
         }
-        Piece::Day(day) => push_quoted(out, day_bytes(*day).as_slice()),
+        Piece::Day(text) => push_quoted(out, text.as_slice()),
     }
 }
 

@@ -8,13 +8,14 @@ use std::alloc::{AllocError, Global};
 use std::marker::Model;
 use wh_base::day::Day;
 use wh_base::tokens::TokenKind;
+use wh_date::day_bytes;
 
-/// A token of a query, which lends its text from it: a number and the text of a day are written from their values.
+/// A token of a query, which lends its text from it, but for a number and the text of a day.
 #[derive(Clone, Copy)]
 pub enum Piece<'a> {
     Spelled(TokenKind, &'a [u8]),
     Number(u128),
-    Day(Day),
+    Day([u8; 10]),
 }
 
 /// The tokens of a query in the order in which they are written, which contracts see as tokens of no place.
@@ -74,7 +75,7 @@ impl<'a> Pieces<'a> {
     pub fn push_day(&mut self, day: Day) -> Result<(), AllocError>
         ensures { OnOk result (self.new ≡ self.old ++ bare TokenKind.Text (day_text day) ∷ []) }
     {
-        self.items.push(Piece::Day(day))?;
+        self.items.push(Piece::Day(day_bytes(day)))?;
         Ok(())
     }
 }
