@@ -1,5 +1,5 @@
 -- The tokens that are kept with a SELECT read as its query.
-use Rattle.std.proofs.Common.{◌≡◌, ℕ, ◌-◌, List, [], length, arith, ap, sym, ◌∙◌, subst, Option, Some, None}
+use Rattle.std.proofs.Common.{◌≡◌, ◌-◌, List, [], length, arith, ap, sym, ◌∙◌, subst, Option, Some, None}
 use Rattle.std.proofs.Math.Seq.{take-length}
 use Rattle.std.specs.Prelude.{option_map, take}
 use Rattle.wh_base.specs.Lists.{is_empty, option_case, where_true}

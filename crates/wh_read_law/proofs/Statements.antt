@@ -17,7 +17,7 @@ use Rattle.wh_base.specs.declared.statements.TableStatement.TheVariants.{AlterTa
 use Rattle.wh_base.specs.declared.statements.ViewStatement.TheVariants.{AlterView, CreateView, DropView, Unregister}
 use Rattle.wh_base.specs.declared.tokens.Token.{Token}
 use Rattle.def_grammar.specs.Forms.{all_words, alter_table, alter_view, asked, attribute, create_dimension, create_log, create_table, create_view, definition, delete, dimension, dml, foreign_part, hierarchy, insert, is_deferred, key_part, level, level_setting, log, log_options, method_text, movement_behind, name_list_token, named_form, new_column_part, on_or_off, other, own_conditions, part_change, partitioning, refresh, refresh_clause, rewrite_clause, row_value, session_setting, set_column, statement, statement_of, update, view}
-use Rattle.def_grammar.specs.Reading.{Rule, bracketed, gives, listed, many, mapped, mark, maybe, name, number, optional_list, word, ◌>>=◌, ◌>>◌, ◌or◌}
+use Rattle.def_grammar.specs.Reading.{Rule, bracketed, gives, listed, many, mapped, mark, maybe, name, number, optional_list, word, ◌>>◌, ◌or◌}
 use Rattle.wh_view_law.specs.Read.{IsRead, ReadsAs}
 use Rattle.wh_read_law.proofs.Kept.{kept-reads}
 use Rattle.wh_read_law.proofs.Rules.{Ends, Gives, OfAll, bind-ends, bind-gives, gives-ends, gives-it, made-ends, mapped-ends, mapped-gives, or-ends, or-gives, then-ends, then-gives}
