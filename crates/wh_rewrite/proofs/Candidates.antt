@@ -17,7 +17,7 @@ use Rattle.def_choice.specs.Choice.{Candidate, candidate, class_is_built}
 use Rattle.def_choice.specs.Concat.{concat_holds, or_concat}
 use Rattle.def_choice.specs.Eligible.{Eligible, Failing, Standing, asks_freshness, back_of, class_of, form_failure, general_class, holds_e8, holds_e9, leaves_tracked, own_text, partial_holds, standing, standing_unless, time_failure}
 use Rattle.def_history.specs.Catalog.{Catalog, View, defs_now}
-use Rattle.def_history.specs.Staleness.{content, point_of, stale_intervals, view_state}
+use Rattle.def_history.specs.Staleness.{content, point_of, stale_intervals}
 use Rattle.def_meaning.specs.Ranges.{misses}
 use Rattle.def_restrictions.specs.Definition.{selects_key, table_defs, tracked_key}
 use Rattle.def_rewriting.specs.Compatible.{failing}
