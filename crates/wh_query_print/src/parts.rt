@@ -8,6 +8,7 @@ use wh_base::queries::{ColName, NamePart, RawAgg, RawExpr, RawItem, RawWhat};
 use wh_base::tokens::TokenKind;
 use wh_base::txt::Txt;
 use wh_base::values::Literal;
+use wh_date::day_bytes;
 
 /// A number with its sign.
 pub fn push_signed(out: &mut Pieces<'_>, number: i128) -> Result<(), AllocError>
@@ -25,7 +26,7 @@ fn push_date(out: &mut Pieces<'_>, day: Day) -> Result<(), AllocError>
     ensures { OnOk result (out.new ≡ out.old ++ literal_tokens (Literal.Dated day)) }
 {
     out.push(TokenKind::Name, b"DATE")?;
-    out.push_day(day)?;
+    out.push_day(day_bytes(day))?;
     Ok(())
 }
 

@@ -1,14 +1,11 @@
 ghost use Rattle.def_grammar.specs.Canonical.{bare, more_tokens, numbered};
 ghost use Rattle.std.specs.Prelude.{◌≡◌, ◌++◌, ◌∷◌, List, OnOk, [], map};
-ghost use Rattle.wh_base.specs.Days.{day_text};
 ghost use Rattle.wh_base.specs.declared.tokens.Token.{Token};
 ghost use Rattle.wh_query_print.specs.Pieces.{piece_token};
 
 use std::alloc::{AllocError, Global};
 use std::marker::Model;
-use wh_base::day::Day;
 use wh_base::tokens::TokenKind;
-use wh_date::day_bytes;
 
 /// A token of a query, which lends its text from it, but for a number and the text of a day.
 #[derive(Clone, Copy)]
@@ -71,11 +68,11 @@ impl<'a> Pieces<'a> {
         Ok(())
     }
 
-    /// One more text, which is that of a day. An error says that memory ran out.
-    pub fn push_day(&mut self, day: Day) -> Result<(), AllocError>
-        ensures { OnOk result (self.new ≡ self.old ++ bare TokenKind.Text (day_text day) ∷ []) }
+    /// One more text, as long as that of a day. An error says that memory ran out.
+    pub fn push_day(&mut self, text: [u8; 10]) -> Result<(), AllocError>
+        ensures { OnOk result (self.new ≡ self.old ++ bare TokenKind.Text text ∷ []) }
     {
-        self.items.push(Piece::Day(day_bytes(day)))?;
+        self.items.push(Piece::Day(text))?;
         Ok(())
     }
 }
