@@ -28,15 +28,22 @@ short_where (Some bytes) h = ap not (le-ltb max_input (length bytes) h)
 
 -- ---- a script
 
--- the place behind the script that was read
-place_of_script : (r : Outcome) (script : Script) → script_in r ≡ Some script → (place : ℕ) × (r ≡ Ok (script, place))
-place_of_script (Ok p) script is = (p.1, ap (λ s. Ok (s, p.1)) (some_is is))
+-- the script that was read, with the place behind it
+abbrev IsRead : Outcome → Script → ℕ → Type 0
+IsRead r script place = r ≡ Ok (script, place)
+
+-- there is such a place
+place_of_script : (r : Outcome) (script : Script) → script_in r ≡ Some script → (place : ℕ) × IsRead r script place
+place_of_script (Ok p) script is = (p.1, found (some_is is))
   where
     some_is : Some p.0 ≡ Some script → p.0 ≡ script
     some_is e = cc
+
+    found : p.0 ≡ script → IsRead (Ok p) script p.1
+    found same = subst (λ s. IsRead (Ok p) s p.1) same refl
 place_of_script (Err e) script is = none is
   where
-    none : None ≡ Some script → (place : ℕ) × (Err e ≡ Ok (script, place))
+    none : None ≡ Some script → (place : ℕ) × IsRead (Err e) script place
     none h = cc
 
 -- a script of forms that are built has the transcript of its own order

@@ -7,7 +7,7 @@ use Rattle.std.proofs.lemmas.List.Concat.{flat_map-append}
 use Rattle.std.proofs.lemmas.List.Elements.{filter-append}
 use Rattle.std.proofs.lemmas.List.Folds.{list_any-append}
 use Rattle.std.proofs.lemmas.List.Sums.{sum_by-append}
-use Rattle.wh_base.specs.Parts.{section_entries}
+use Rattle.wh_base.specs.Parts.{bearer, section_entries}
 use Rattle.wh_base.specs.declared.statements.Entry.{Entry}
 use Rattle.wh_base.specs.declared.statements.Event.{Event}
 use Rattle.wh_base.specs.declared.statements.Script.{Script}
@@ -59,8 +59,8 @@ own_push front e n b is = filter-append (λ x. x.session == n) front (e ∷ []) 
 
 -- ---- another session's part
 
-pub other_far : (version : Version) (script : Script) (front : List Entry) (e : Entry) (s : Section) (r : Run) → (e.session == s.session) ≡ false → IsAsFar version script front s r → IsAsFar version script (front ++ e ∷ []) s r
-other_far version script front e s r other far =
+pub other_far : (version : Version) (script : Script) (front : List Entry) (e : Entry) (s : Section) (r : Run) → e.worker ≡ 0 → (e.session == s.session) ≡ false → IsAsFar version script front s r → IsAsFar version script (front ++ e ∷ []) s r
+other_far version script front e s r alone other far =
     let trace : List Event = trace_of script front in
     let x : Event = event_at script e in
     let same : of_session s.session (front ++ e ∷ []) ≡ of_session s.session front = own_push front e s.session false other ∙ append-nil (of_session s.session front) in
@@ -69,7 +69,7 @@ other_far version script front e s r other far =
     ∙ ap (λ b. session_told script front s ++ cond b (given_by x (reply_to trace x)) []) other
     ∙ append-nil (session_told script front s) in
     let number : r.section.session ≡ s.session = ap (λ t. t.session) far.section_is in
-    let apart : is_of r.section.session x ≡ false = ap (λ n. e.session == n) number ∙ other in
+    let apart : is_of r.section.session x ≡ false = ap (λ w. bearer e.session w == r.section.session) alone ∙ ap (λ n. e.session == n) number ∙ other in
     record {
       version_is = far.version_is;
       section_is = far.section_is;
@@ -84,13 +84,13 @@ other_far version script front e s r other far =
       ended = far.ended;
     }
 
-pub others_far : (version : Version) (script : Script) (front : List Entry) (e : Entry) (ss : List Section) (rs : List Run) → AreOthers e.session ss → AreAsFar version script front ss rs → AreAsFar version script (front ++ e ∷ []) ss rs
-others_far version script front e [] [] others far = tt
-others_far version script front e [] (r ∷ rs) others far = far
-others_far version script front e (s ∷ ss) [] others far = far
-others_far version script front e (s ∷ ss) (r ∷ rs) others far =
+pub others_far : (version : Version) (script : Script) (front : List Entry) (e : Entry) (ss : List Section) (rs : List Run) → e.worker ≡ 0 → AreOthers e.session ss → AreAsFar version script front ss rs → AreAsFar version script (front ++ e ∷ []) ss rs
+others_far version script front e [] [] alone others far = tt
+others_far version script front e [] (r ∷ rs) alone others far = far
+others_far version script front e (s ∷ ss) [] alone others far = far
+others_far version script front e (s ∷ ss) (r ∷ rs) alone others far =
     let other : (e.session == s.session) ≡ false = ne_eqb e.session s.session (λ same. eqb-false s.session e.session others.0 (sym same)) in
-    (other_far version script front e s r other far.0, others_far version script front e ss rs others.1 far.1)
+    (other_far version script front e s r alone other far.0, others_far version script front e ss rs alone others.1 far.1)
 
 -- ---- the session's own part
 
@@ -196,10 +196,10 @@ found_own n s (t ∷ ss) found = by (t.session == n) refl found (found_own n s s
     by false is here later = later here
 
 -- it alone has gone on
-pub all_far : (version : Version) (script : Script) (front : List Entry) (e : Entry) (s : Section) (after : Run) (ss : List Section) (rs : List Run) → AreApart ss → AreAsFar version script front ss rs → find (λ t. t.session == e.session) ss ≡ Some s → IsAsFar version script (front ++ e ∷ []) s after → AreAsFar version script (front ++ e ∷ []) ss (slice_set rs (place_of e.session rs) after)
-all_far version script front e s after [] rs apart far found own = none_is_some s found
-all_far version script front e s after (t ∷ ss) [] apart far found own = absurd far
-all_far version script front e s after (t ∷ ss) (r ∷ rs) apart far found own = by (t.session == e.session) refl found (all_far version script front e s after ss rs apart.1 far.1)
+pub all_far : (version : Version) (script : Script) (front : List Entry) (e : Entry) (s : Section) (after : Run) (ss : List Section) (rs : List Run) → e.worker ≡ 0 → AreApart ss → AreAsFar version script front ss rs → find (λ t. t.session == e.session) ss ≡ Some s → IsAsFar version script (front ++ e ∷ []) s after → AreAsFar version script (front ++ e ∷ []) ss (slice_set rs (place_of e.session rs) after)
+all_far version script front e s after [] rs alone apart far found own = none_is_some s found
+all_far version script front e s after (t ∷ ss) [] alone apart far found own = absurd far
+all_far version script front e s after (t ∷ ss) (r ∷ rs) alone apart far found own = by (t.session == e.session) refl found (all_far version script front e s after ss rs alone apart.1 far.1)
   where
     n : ℕ
     n = e.session
@@ -211,10 +211,10 @@ all_far version script front e s after (t ∷ ss) (r ∷ rs) apart far found own
     by true is here later =
         let place : place_of n (r ∷ rs) ≡ 0 = ap (λ b. cond b 0 (suc (place_of n rs))) (test ∙ is) in
         let others : AreOthers n ss = subst (λ m. AreOthers m ss) (eqb-true t.session n is) apart.0 in
-        let both : AreAsFar version script (front ++ e ∷ []) (t ∷ ss) (after ∷ rs) = (subst (λ u. IsAsFar version script (front ++ e ∷ []) u after) (sym (some_is t s here)) own, others_far version script front e ss rs others far.1) in
+        let both : AreAsFar version script (front ++ e ∷ []) (t ∷ ss) (after ∷ rs) = (subst (λ u. IsAsFar version script (front ++ e ∷ []) u after) (sym (some_is t s here)) own, others_far version script front e ss rs alone others far.1) in
         subst (λ k. AreAsFar version script (front ++ e ∷ []) (t ∷ ss) (slice_set (r ∷ rs) k after)) (sym place) both
     by false is here later =
         let place : place_of n (r ∷ rs) ≡ suc (place_of n rs) = ap (λ b. cond b 0 (suc (place_of n rs))) (test ∙ is) in
         let other : (n == t.session) ≡ false = ne_eqb n t.session (λ same. eqb-false t.session n is (sym same)) in
-        let both : AreAsFar version script (front ++ e ∷ []) (t ∷ ss) (r ∷ slice_set rs (place_of n rs) after) = (other_far version script front e t r other far.0, later here own) in
+        let both : AreAsFar version script (front ++ e ∷ []) (t ∷ ss) (r ∷ slice_set rs (place_of n rs) after) = (other_far version script front e t r alone other far.0, later here own) in
         subst (λ k. AreAsFar version script (front ++ e ∷ []) (t ∷ ss) (slice_set (r ∷ rs) k after)) (sym place) both

@@ -131,7 +131,7 @@ step_so_far version script front rest e trace trace_after runs runs_after old re
     let raise : taken.count + taken.run.ahead ≡ read + (reads_of (given_by (event_at script e) (reply_to (trace_of script front) (event_at script e))) + taken.after.ahead) = takes.read_is ∙ sym (ap (λ x. read + (reads_of (given_by x (reply_to (trace_of script front) x)) + taken.after.ahead)) event) in
     let after : SoFar version script (front ++ e ∷ []) trace_after (slice_set runs place taken.after) old (slice_set reads n taken.count) = record {
       trace_is = trace_is version script front e taken.run taken.after trace_after read taken.count next own here takes;
-      far = all_far version script front e s taken.after script.sections runs (apart_of script runnable.differ) far.far next.found (own_far version script front e taken.run taken.after trace_after read taken.count next own here takes);
+      far = all_far version script front e s taken.after script.sections runs next.names.alone (apart_of script runnable.differ) far.far next.found (own_far version script front e taken.run taken.after trace_after read taken.count next own here takes);
       counted = counted_next script front e place taken.count runs taken.run taken.after old reads taken.there number takes.section_is (omega (arith, many, low_number)) far.counted raise;
       many = length-set reads n taken.count ∙ far.many;
     } in
