@@ -1,12 +1,12 @@
 -- The names between commas, one piece after another.
-use Rattle.std.proofs.Common.{◌≡◌, ℕ, ◌+◌, ◌<◌, ◌≤◌, suc, List, [], ◌∷◌, ◌++◌, length, drop, take, Bool, true, false, Option, Some, None, cond, refl, ap, sym, ◌∙◌, append_assoc, append-nil, arith, map}
+use Rattle.std.proofs.Common.{◌≡◌, ℕ, ◌+◌, ◌<◌, ◌≤◌, suc, List, [], ◌∷◌, ◌++◌, length, drop, take, Bool, true, false, Option, Some, None, Ok, cond, refl, ap, sym, ◌∙◌, append_assoc, append-nil, arith, map}
 use Rattle.std.proofs.lemmas.Bool.Decides.{nat_tests}
 use Rattle.std.proofs.lemmas.List.{length-append, reverse-append, reverse-reverse}
 use Rattle.std.proofs.lemmas.List.Sums.{take_while-cons}
-use Rattle.std.specs.Prelude.{nat_lt, option_and_then, option_map, reverse, take_while, ◌==◌}
+use Rattle.std.specs.Prelude.{nat_lt, option_and_then, option_map, reverse, take_while, unwrap_or, ◌==◌}
 use Rattle.def_grammar.specs.Forms.{as_list, behind_comma, between_commas, name_in, name_pieces, onto_piece, without_spaces_before, without_spaces_behind}
 use Rattle.wh_base.specs.Lists.{all_there, is_empty, where_true}
-use Rattle.wh_ddl_text.specs.NameLists.{comma_place, is_no_comma, is_space, list_in, names_behind, with_names}
+use Rattle.wh_ddl_text.specs.NameLists.{Pushes, comma_place, is_no_comma, is_space, list_in, names_behind, with_names}
 
 -- ---- spaces
 
@@ -15,8 +15,8 @@ before-drops [] = refl
 before-drops (b ∷ bs) = by (b == 32) refl (before-drops bs)
   where
     by : (t : Bool) → (b == 32) ≡ t → drop (length (take_while is_space bs)) bs ≡ without_spaces_before bs → drop (length (take_while is_space (b ∷ bs))) (b ∷ bs) ≡ without_spaces_before (b ∷ bs)
-    by true e more = rw (take_while-cons is_space b bs, e, e) more
-    by false e more = rw (take_while-cons is_space b bs, e, e) refl
+    by true e more = rw (take_while-cons is_space b bs, e) more
+    by false e more = rw (take_while-cons is_space b bs, e) refl
 
 -- a space at the end goes
 pub behind-space : (all front : List ℕ) (last : ℕ) → all ≡ front ++ last ∷ [] → last ≡ 32 → without_spaces_behind front ≡ without_spaces_behind all
@@ -64,11 +64,11 @@ first-piece (b ∷ bs) h = by (b == 44) refl (λ k. first-piece bs k)
   where
     by : (t : Bool) → (b == 44) ≡ t → (comma_place bs < length bs → between_commas bs ≡ take (comma_place bs) bs ∷ between_commas (drop (comma_place bs + 1) bs))
         → between_commas (b ∷ bs) ≡ take (comma_place (b ∷ bs)) (b ∷ bs) ∷ between_commas (drop (comma_place (b ∷ bs) + 1) (b ∷ bs))
-    by true e more = rw (take_while-cons is_no_comma b bs, e, e) refl
+    by true e more = rw (take_while-cons is_no_comma b bs, e) refl
     by false e more =
         let less : suc (comma_place bs) < suc (length bs) = rw (take_while-cons is_no_comma b bs, e) at h in
         let next : suc (comma_place bs) + 1 ≡ suc (comma_place bs + 1) = omega arith in
-        rw (take_while-cons is_no_comma b bs, e, e, next) (ap (onto_piece b) (more (omega (arith, less))))
+        rw (take_while-cons is_no_comma b bs, e, next) (ap (onto_piece b) (more (omega (arith, less))))
 
 -- ---- names behind a comma
 
@@ -139,6 +139,26 @@ next-name done bs place at within =
     ∙ followed done (name_in (without_spaces_behind (without_spaces_before (take (comma_place bs) bs)))) (map name_in (behind_comma (between_commas (drop (comma_place bs + 1) bs))))
     ∙ ap (λ n. with_one done (name_in (without_spaces_behind (without_spaces_before (take n bs)))) (names_behind (drop (n + 1) bs))) same
 
+-- the same with what was pushed of the piece
+pub next-pushed : (done : List (List ℕ)) (bs piece : List ℕ) (place : ℕ) (o : Option (List (List ℕ))) → place ≡ comma_place bs → place < length bs → piece ≡ without_spaces_behind (without_spaces_before (take place bs))
+    → option_map (λ n. done ++ n ∷ []) (name_in piece) ≡ o → with_names done (names_behind bs) ≡ option_and_then (λ names. with_names names (names_behind (drop (place + 1) bs))) o
+next-pushed done bs piece place o at within same e =
+    next-name done bs place at within ∙ ap (λ t. with_one done (name_in t) (names_behind (drop (place + 1) bs))) (sym same) ∙ ap (λ p. option_and_then (λ names. with_names names (names_behind (drop (place + 1) bs))) p) e
+
+-- whether a name was pushed
+pub pushed : (done : Bool) (names : List (List ℕ)) (o : Option (List (List ℕ))) → Pushes (Ok done) names o → done ≡ true → o ≡ Some names
+pushed true names o h e = h
+pushed false names o h e = cc
+
+pub not-pushed : (done : Bool) (names : List (List ℕ)) (o : Option (List (List ℕ))) → Pushes (Ok done) names o → done ≡ false → o ≡ None
+not-pushed true names o h e = cc
+not-pushed false names o h e = h
+
+-- a name that was pushed is one more
+pub longer : (done new : List (List ℕ)) (o : Option (List ℕ)) → option_map (λ n. done ++ n ∷ []) o ≡ Some new → length new ≡ length done + 1
+longer done new None e = cc
+longer done new (Some n) e = let same : Some (done ++ n ∷ []) ≡ Some new = e in omega (arith, length-append done (n ∷ []), ap (λ all. length (unwrap_or all [])) same)
+
 -- a piece is always left
 pub too-many : (done : List (List ℕ)) (bs : List ℕ) → 63 ≤ length done → with_names done (names_behind bs) ≡ None
 too-many done bs h =
@@ -169,7 +189,7 @@ first-followed : (o : Option (List ℕ)) (os : List (Option (List ℕ))) → lis
 first-followed None os = refl
 first-followed (Some n) os = by (all_there os)
   where
-    by_test : (ns : List (List ℕ)) (t : Bool) → where_true t (n, ns) ≡ option_map (λ ms. (n, ms)) (where_true t ns)
+    by_test : (ns : List (List ℕ)) (t : Bool) → where_true {A = List ℕ × List (List ℕ)} t (n, ns) ≡ option_map (λ ms. (n, ms)) (where_true t ns)
     by_test ns true = refl
     by_test ns false = refl
 
