@@ -1,5 +1,5 @@
 -- Words that are no text, or that begin with a hyphen, name no form, and neither do three or more.
-use Rattle.std.proofs.Common.{◌≡◌, ◌≢◌, ◌∙◌, ◌<◌, ◌^◌, ◌&&◌, ℕ, List, Bool, Option, None, Some, [], ◌∷◌, true, false, refl, ap, ap₂, sym, subst, arith, rules, true≢false, cond, codes, option_map}
+use Rattle.std.proofs.Common.{◌≡◌, ◌∙◌, ◌<◌, ◌^◌, ◌&&◌, ℕ, List, Bool, Option, None, Some, [], ◌∷◌, true, false, refl, ap, ap₂, sym, subst, arith, rules, true≢false, cond, codes, option_map}
 use Rattle.std.specs.Prelude.{decimal, option_and_then, ◌==◌}
 use Rattle.std.specs.Option.{is_some}
 use Rattle.std.specs.Str.{is_utf8}

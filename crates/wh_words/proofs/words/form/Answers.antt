@@ -1,4 +1,4 @@
-use Rattle.std.proofs.Common.{◌∙◌, ap, map, option_map, sym}
+use Rattle.std.proofs.Common.{◌∙◌, ap, option_map, sym}
 use Rattle.wh_words.proofs.Forms.{named_words}
 use Rattle.wh_words.proofs.Walked.{texts}
 use Rattle.wh_words.specs.Words.{form_meant, one_or_two, words_at}
