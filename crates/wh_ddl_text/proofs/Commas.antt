@@ -212,6 +212,12 @@ list-more bs place at within =
     ∙ first-followed (name_in (without_spaces_behind (take (comma_place bs) bs))) (map name_in (behind_comma (between_commas rest)))
     ∙ ap (λ n. with_first (name_in (without_spaces_behind (take n bs))) (names_behind (drop (n + 1) bs))) same
 
+-- the same with what was read of the piece
+pub list-read : (bs piece : List ℕ) (place : ℕ) (o : Option (List ℕ)) → place ≡ comma_place bs → place < length bs → piece ≡ without_spaces_behind (take place bs) → o ≡ name_in piece
+    → list_in bs ≡ with_first o (names_behind (drop (place + 1) bs))
+list-read bs piece place o at within same e =
+    list-more bs place at within ∙ ap (λ t. with_first (name_in t) (names_behind (drop (place + 1) bs))) (sym same) ∙ ap (λ p. with_first p (names_behind (drop (place + 1) bs))) (sym e)
+
 pub ruleset pieces = (last-name, next-name, too-many)
 
 pub ruleset lists = (list-alone, list-more)

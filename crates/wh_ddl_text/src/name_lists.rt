@@ -102,6 +102,17 @@ fn one_name(alloc: Global, text: &[u8]) -> Result<Option<(Txt, Seq<Txt>)>, Parse
     }
 }
 
+// The name and those that a text behind a comma lists.
+fn with_first(alloc: Global, first: Txt, text: &[u8]) -> Result<Option<(Txt, Seq<Txt>)>, ParseFault>
+    requires { length text.now < 2 ^ 32 }
+    ensures { Makes result (option_map (λ names. (first, names)) (with_names [] (names_behind text.now))) }
+{
+    match names_behind(alloc, text)? {
+        Some(more) => Ok(Some((first, more))),
+        None => Ok(None),
+    }
+}
+
 /// The names that a text lists, with commas between and with spaces around these: the first, and the others. `None` where
 /// what stands between two commas is no name, or where there are more than 64.
 ///
@@ -115,11 +126,9 @@ pub fn list_in(alloc: Global, text: &[u8]) -> Result<Option<(Txt, Seq<Txt>)>, Pa
     if place == text.len() {
         return one_name(alloc, text);
     }
-    let Some(first) = name_in(alloc, without_spaces_behind(text.split_at(place).0))? else {
-        return Ok(None);
-    };
-    match names_behind(alloc, text.split_at(place + 1).1)? {
-        Some(more) => Ok(Some((first, more))),
+    let piece = without_spaces_behind(text.split_at(place).0);
+    match name_in(alloc, piece)? {
+        Some(first) => with_first(alloc, first, text.split_at(place + 1).1),
         None => Ok(None),
     }
 }
