@@ -1,5 +1,5 @@
 -- A script that is read can be run.
-use Rattle.std.proofs.Common.{◌≡◌, ap, refl, subst, sym, arith, ℕ, suc, zero, ◌≤◌, ◌==◌, ◌||◌, ◌&&◌, true, List, [], ◌∷◌, map}
+use Rattle.std.proofs.Common.{◌≡◌, ap, refl, subst, sym, arith, ℕ, suc, zero, ◌<◌, ◌≤◌, ◌==◌, ◌||◌, ◌&&◌, true, List, [], ◌∷◌, map}
 use Rattle.std.specs.List.{All, AllByRecursion, AllPairs, list_all}
 use Rattle.std.proofs.lemmas.Bool.{and_from, and_parts}
 use Rattle.std.proofs.lemmas.List.Elements.{All-from_recursion}
