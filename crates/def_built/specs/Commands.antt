@@ -4,6 +4,7 @@ use Rattle.def_built.specs.Forms.{block_form, change_form, is_built, statement_f
 use Rattle.def_built.specs.declared.forms.Form.TheVariants as forms
 use Rattle.std.specs.List.{list_all}
 use Rattle.std.specs.Prelude.{◌&&◌, Bool, List, Option, Some, false, is_none, not, true}
+use Rattle.wh_base.specs.Lists.{is_empty}
 use Rattle.wh_base.specs.declared.queries.RawQuery.{RawQuery}
 use Rattle.wh_base.specs.declared.statements.Command.{Command}
 use Rattle.wh_base.specs.declared.statements.Command.TheVariants as commands
@@ -11,6 +12,8 @@ use Rattle.wh_base.specs.declared.statements.Method.{Method}
 use Rattle.wh_base.specs.declared.statements.Method.TheVariants.{Complete, Force}
 use Rattle.wh_base.specs.declared.statements.NewTable.{NewTable}
 use Rattle.wh_base.specs.declared.statements.NewView.{NewView}
+use Rattle.wh_base.specs.declared.statements.PartChange.{PartChange}
+use Rattle.wh_base.specs.declared.statements.PartChange.TheVariants.{Merge, Movement, Split}
 use Rattle.wh_base.specs.declared.statements.RefreshView.{RefreshView}
 use Rattle.wh_base.specs.declared.statements.ShowStatement.{ShowStatement}
 use Rattle.wh_base.specs.declared.statements.ShowStatement.TheVariants.{ShowView}
@@ -21,14 +24,22 @@ use Rattle.wh_base.specs.declared.statements.TableStatement.TheVariants.{AlterTa
 use Rattle.wh_base.specs.declared.statements.ViewStatement.{ViewStatement}
 use Rattle.wh_base.specs.declared.statements.ViewStatement.TheVariants.{CreateView}
 
--- ---- CREATE TABLE: all of it but PARTITION BY. What is wrong with it otherwise is refused when it runs
+-- ---- CREATE TABLE: all of it but PARTITION BY and ENABLE ROW MOVEMENT. What is wrong with it otherwise is refused when it runs
 
 abbrev pub new_table_is_built : NewTable → Bool
-new_table_is_built t = is_none t.partitioning
+new_table_is_built t = is_none t.partitioning && not t.movement
+
+-- ---- ALTER TABLE: no SPLIT, no MERGE and no row movement
+
+abbrev pub part_change_is_built : PartChange → Bool
+part_change_is_built (Split s) = false
+part_change_is_built (Merge s) = false
+part_change_is_built (Movement on) = false
+part_change_is_built c = true
 
 abbrev pub table_statement_is_built : TableStatement → Bool
 table_statement_is_built (CreateTable t) = is_built forms.CreateTable && new_table_is_built t
-table_statement_is_built (AlterTable a) = is_built forms.AlterTable
+table_statement_is_built (AlterTable a) = is_built forms.AlterTable && part_change_is_built a.change
 
 -- ---- SELECT: all of it but AS OF
 
@@ -50,14 +61,14 @@ abbrev pub view_statement_is_built : ViewStatement → Bool
 view_statement_is_built (CreateView v) = new_view_is_built v
 view_statement_is_built s = true
 
--- ---- DBMS_MVIEW.REFRESH: with the letter C alone
+-- ---- DBMS_MVIEW.REFRESH: of one view, and with the letter C alone
 
 abbrev pub is_complete : Option Method → Bool
 is_complete (Some Complete) = true
 is_complete m = false
 
 abbrev pub refresh_is_built : RefreshView → Bool
-refresh_is_built r = is_complete r.method
+refresh_is_built r = is_complete r.method && is_empty r.more
 
 -- ---- SHOW VIEW alone of the statements that show something
 
@@ -89,6 +100,7 @@ block_is_built ss = is_built (block_form ss) && list_all part_of_block_is_built 
 abbrev pub command_is_built : Command → Bool
 command_is_built (commands.Block b) = block_is_built b.statements
 command_is_built (commands.Other s) = statement_is_built s
+command_is_built (commands.Submit s) = is_built forms.Submit && statement_is_built s
 
 abbrev pub commands_are_built : List Command → Bool
 commands_are_built cs = list_all command_is_built cs

@@ -31,6 +31,9 @@ is_built forms.Purge = false
 is_built forms.Show = true
 is_built forms.ExplainQuery = false
 is_built forms.Setting = false
+is_built forms.Workers = false
+is_built forms.Submit = false
+is_built forms.Nested = false
 
 abbrev pub change_form : ChangeStatement → Form
 change_form (changes.Insert s) = forms.Insert
@@ -63,3 +66,4 @@ block_form ss = forms.Block
 abbrev pub command_form : Command → Form
 command_form (commands.Block b) = block_form b.statements
 command_form (commands.Other s) = statement_form s
+command_form (commands.Submit s) = forms.Submit

@@ -34,6 +34,12 @@ pub enum Form {
     ExplainQuery,
     /// SET TRANSACTION, the COMMIT that ends it, and ALTER SESSION.
     Setting,
+    /// `@workers`.
+    Workers,
+    /// SUBMIT.
+    Submit,
+    /// CREATE MATERIALIZED VIEW over a view.
+    Nested,
 }
 
 /// Whether the program runs this form so far. A form that it doesn't run is answered `NotBuilt` on its line, which is this

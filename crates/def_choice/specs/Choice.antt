@@ -1,42 +1,55 @@
 -- The plan that is chosen for a query, its rows, and the base rows that it reads.
 use Rattle.std.specs.Ordering.{nat_cmp, ordering_then}
-use Rattle.std.specs.Prelude.{Bool, List, Option, [], filter_map, length, map, nat_abs, option_and_then, sum_by, false, true, ℕ}
+use Rattle.std.specs.Prelude.{Bool, List, Option, [], filter_map, length, map, nat_abs, option_and_then, false, true, ℕ}
 use Rattle.std.specs.declared.cmp.Ordering.{Ordering}
 use Rattle.wh_base.specs.Lists.{least_by, option_case, where_true}
-use Rattle.wh_base.specs.Tables.{Base, table_at}
+use Rattle.wh_base.specs.Tables.{Base}
 use Rattle.wh_base.specs.declared.queries.StarQuery.{StarQuery}
 use Rattle.wh_base.specs.declared.statements.Level.{Level}
 use Rattle.wh_base.specs.declared.values.Value.{Value}
 use Rattle.wh_base.specs.declared.views.Back.{Back}
 use Rattle.wh_base.specs.declared.views.Class.{Class}
-use Rattle.wh_base.specs.declared.views.Class.TheVariants.{Full, General, JoinBack, Partial}
+use Rattle.wh_base.specs.declared.views.Class.TheVariants.{Concat, Full, General, JoinBack, Partial}
 use Rattle.wh_base.specs.declared.views.Plan.{Plan}
 use Rattle.wh_base.specs.declared.views.Verdict.{Verdict}
 use Rattle.wh_base.specs.declared.views.ViewPlan.{ViewPlan}
-use Rattle.def_choice.specs.Eligible.{back_of, class_of, failed_of, standing}
+use Rattle.def_choice.specs.Concat.{concat_holds, or_concat}
+use Rattle.def_choice.specs.Eligible.{Standing, back_of, class_of, serving_of, standing}
 use Rattle.def_history.specs.Catalog.{Catalog, View, base_at, base_now, defs_now, view_numbered}
-use Rattle.def_history.specs.Staleness.{content, point_of}
-use Rattle.wh_lex.specs.declared.token.Token.{Token}
+use Rattle.def_history.specs.Staleness.{content, point_of, stale_intervals}
+use Rattle.wh_base.specs.declared.tokens.Token.{Token}
 use Rattle.def_meaning.specs.Meaning.{in_order, meaning}
 use Rattle.def_meaning.specs.Ranges.{base_reads}
-use Rattle.def_rewriting.specs.PlanRows.{class_rows}
+use Rattle.def_restrictions.specs.Definition.{tracked_key}
+use Rattle.def_rewriting.specs.Classes.{class_reads, class_rows}
 use Rattle.wh_base.specs.declared.views.Plan.TheVariants as plan
 
 -- ---- choice
 
--- FULL before PARTIAL before GENERAL before JOINBACK.
+-- FULL before PARTIAL before GENERAL before JOINBACK before CONCAT.
 abbrev pub class_rank : Class → ℕ
 class_rank Full = 0
 class_rank Partial = 1
 class_rank General = 2
 class_rank JoinBack = 3
+class_rank Concat = 4
 
--- The classes that are built so far. A view of another class doesn't serve a query yet.
+-- The classes that are built so far. A view of another class doesn't serve a query yet. The definitions below take such a test
+-- as `built`; with every class built the choice is whole.
 abbrev pub class_is_built : Class → Bool
 class_is_built Full = true
 class_is_built Partial = false
 class_is_built General = false
 class_is_built JoinBack = false
+class_is_built Concat = false
+
+-- Every class.
+abbrev pub every_class : Class → Bool
+every_class class = true
+
+-- What the view can do for the query, for its fresh keys alone too.
+abbrev pub full_standing : Catalog → StarQuery → List Token → Level → Bool → View → Standing
+full_standing c q text level enabled v = or_concat (concat_holds c q level enabled v) (standing c q text level enabled v)
 
 -- A view that is eligible, with its class, the tables joined back, and the number of its entries.
 pub record Candidate : Type 0 where
@@ -46,26 +59,26 @@ pub record Candidate : Type 0 where
   pub size : ℕ
 
 -- The view as a candidate, where it is eligible with a class that is built.
-abbrev pub candidate : Catalog → StarQuery → List Token → Level → Bool → View → Option Candidate
-candidate c q text level enabled v =
-    let s = standing c q text level enabled v in
-    option_and_then (λ class. where_true (class_is_built class) (record { view = v; class = class; back = back_of s; size = length (content c v) })) (class_of s)
+abbrev pub candidate : (Class → Bool) → Catalog → StarQuery → List Token → Level → Bool → View → Option Candidate
+candidate built c q text level enabled v =
+    let s = full_standing c q text level enabled v in
+    option_and_then (λ class. where_true (built class) (record { view = v; class = class; back = back_of s; size = length (content c v) })) (class_of s)
 
 -- The first class goes first, and in a class the view with the fewest entries.
 abbrev pub candidate_cmp : Candidate → Candidate → Ordering
 candidate_cmp a b = ordering_then (nat_cmp (class_rank a.class) (class_rank b.class)) (nat_cmp a.size b.size)
 
 -- The first of the candidates; of equals the one created earliest.
-abbrev pub best : Catalog → StarQuery → List Token → Level → Bool → Option Candidate
-best c q text level enabled = least_by candidate_cmp (filter_map (candidate c q text level enabled) c.views)
+abbrev pub best : (Class → Bool) → Catalog → StarQuery → List Token → Level → Bool → Option Candidate
+best built c q text level enabled = least_by candidate_cmp (filter_map (candidate built c q text level enabled) c.views)
 
 -- The plan over this view; it prints the view's point.
 abbrev pub view_plan : Candidate → Plan
 view_plan x = plan.View (record { class = x.class; view = x.view.def.view; name = x.view.def.name; point = point_of x.view; back = x.back })
 
--- The plan: the best view, and BASE exactly where no view is eligible.
-abbrev pub choice : Catalog → StarQuery → List Token → Level → Bool → Plan
-choice c q text level enabled = option_case (best c q text level enabled) plan.Base view_plan
+-- The plan: the best view, and BASE exactly where no view is eligible with a class that is built.
+abbrev pub choice : (Class → Bool) → Catalog → StarQuery → List Token → Level → Bool → Plan
+choice built c q text level enabled = option_case (best built c q text level enabled) plan.Base view_plan
 
 -- ---- rows
 
@@ -79,7 +92,7 @@ base_then c q = base_at c (asked_scn c q)
 
 -- The rows of a plan over this view, not yet in order.
 abbrev pub view_rows : Catalog → StarQuery → ViewPlan → View → List (List Value)
-view_rows c q p v = class_rows (defs_now c) (base_now c) q v.def.query p.class p.back (content c v)
+view_rows c q p v = class_rows (defs_now c) (base_now c) q v.def.query (tracked_key v.def) (stale_intervals c v) p.class p.back (content c v)
 
 -- The rows of a plan: under BASE the query's meaning over the base rows, else what the view's entries give, in the query's order.
 abbrev pub plan_meaning : Catalog → StarQuery → Plan → List (List Value)
@@ -88,21 +101,21 @@ plan_meaning c q (plan.View p) = in_order q.order (option_case (view_numbered c 
 
 -- ---- reads
 
--- The live rows of the tables joined back: their number.
-abbrev pub back_reads : Base → List Back → ℕ
-back_reads base backs = sum_by (λ b. length (table_at base b.table).rows) backs
+-- The base rows that a plan over this view reads: their number.
+abbrev pub view_reads : Catalog → StarQuery → ViewPlan → View → ℕ
+view_reads c q p v = class_reads (base_now c) q (tracked_key v.def) (stale_intervals c v) p.class p.back
 
--- READ of a plan: what the base plan reads, or the tables joined back.
+-- READ of a plan: what the base plan reads, or the plan over the view.
 abbrev pub plan_reads : Catalog → StarQuery → Plan → ℕ
 plan_reads c q plan.Base = base_reads q (base_then c q)
-plan_reads c q (plan.View p) = back_reads (base_now c) p.back
+plan_reads c q (plan.View p) = option_case (view_numbered c p.view) 0 (view_reads c q p)
 
 -- ---- EXPLAIN REWRITE
 
--- The view's name with its class, or with the number of the condition that fails first.
+-- The view's name with its class, built or not, or with the requirement that fails first.
 abbrev pub verdict : Catalog → StarQuery → List Token → Level → Bool → View → Verdict
 verdict c q text level enabled v =
-    let s = standing c q text level enabled v in record { view = v.def.name; class = class_of s; failed = failed_of s }
+    record { view = v.def.name; serving = serving_of (full_standing c q text level enabled v) }
 
 -- One for each view, in the order of creation.
 abbrev pub verdicts : Catalog → StarQuery → List Token → Level → Bool → List Verdict

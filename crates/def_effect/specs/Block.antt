@@ -3,8 +3,10 @@
 -- it (keys, foreign keys, limits). Each statement sees what those before it made; the first refusal undoes the block.
 use Rattle.std.specs.List.{enumerate_from, list_all, list_any}
 use Rattle.std.specs.Prelude.{Bool, Err, List, None, Ok, Option, Result, Some, [], codes, cond, false, filter, filter_map, find, flat_map, is_none, length, map, nat_abs, nat_le, nat_lt, neg_ℤ, not, option_map, pos, suc, unwrap_or, zip, ℕ, ℤ, ◌&&◌, ◌++◌, ◌+◌, ◌==◌, ◌^◌, ◌||◌, ◌∷◌}
+use Rattle.wh_base.specs.DayTexts.{day_of}
+use Rattle.wh_base.specs.Days.{is_day}
 use Rattle.wh_base.specs.Lists.{count_from, distinct, first_of, first_some, option_case, or_refuse, repeated, same_text, unless, where_true, ◌>>=◌}
-use Rattle.wh_base.specs.Tables.{Base, Row, Table, TableChange, column_name, column_number, defs_of, mark_of, part_of_key, row_key, table_after, table_at, table_number, value_at, with_table}
+use Rattle.wh_base.specs.Tables.{Base, Row, Table, TableChange, column_name, column_number, defs_of, is_insert, mark_of, part_of_key, row_key, table_after, table_at, table_number, value_at, with_table}
 use Rattle.wh_base.specs.Values.{added_value, digits_number, given_value, is_null, same_value}
 use Rattle.wh_base.specs.declared.columns.ColPart.TheVariants.{Col}
 use Rattle.wh_base.specs.declared.columns.ColRef.{ColRef}
@@ -28,10 +30,10 @@ use Rattle.wh_base.specs.declared.tables.ForeignDef.{ForeignDef}
 use Rattle.wh_base.specs.declared.tables.Kind.{Kind}
 use Rattle.wh_base.specs.declared.tables.TableDef.{TableDef}
 use Rattle.wh_base.specs.declared.values.Value.{Value}
-use Rattle.wh_base.specs.declared.values.Value.TheVariants.{Null, Num, Text}
+use Rattle.wh_base.specs.declared.values.Value.TheVariants.{Day, Null, Num, Text}
 use Rattle.def_meaning.specs.Joined.{conditions_true, edge_true, part_value}
 use Rattle.def_meaning.specs.Meaning.{not_null}
-use Rattle.def_resolve.specs.Kinds.{IsNumber, Sort, agrees, literal_sort, part_sort, printed_part, value_sort}
+use Rattle.def_resolve.specs.Kinds.{IsText, Sort, agrees, literal_sort, part_sort, printed_part, value_sort}
 use Rattle.def_resolve.specs.Names.{Source, column_named, condition_names, name_refusal}
 use Rattle.def_resolve.specs.Resolve.{join_of_condition, resolved_condition}
 use Rattle.wh_base.specs.declared.queries.RawCondition.TheVariants as raw
@@ -111,6 +113,7 @@ field_number (b ∷ bs) = cond (b == 45) (option_map (λ n. neg_ℤ (pos n)) (di
 abbrev pub field_of_kind : Kind → List ℕ → Option Value
 field_of_kind (kind.Number n) field = option_map Num (field_number field)
 field_of_kind (kind.Text n) field = Some (Text field)
+field_of_kind kind.Date field = option_map Day (day_of field)
 
 -- the value of a field for a column of this kind: an empty one is NULL; None where it is of the wrong kind
 abbrev pub field_value : Kind → List ℕ → Option Value
@@ -193,21 +196,26 @@ set_names s = s.column ∷ new_value_names s.value
 abbrev pub place_of : TableDef → List ℕ → ℕ
 place_of d name = unwrap_or (column_number d name) 0
 
--- the column holds numbers
-abbrev pub is_number_column : TableDef → ℕ → Bool
-is_number_column d c = agrees (part_sort d (Col c)) IsNumber
+-- the column holds what a number may be added to: numbers, or days
+abbrev pub is_counted_column : TableDef → ℕ → Bool
+is_counted_column d c = not (agrees (part_sort d (Col c)) IsText)
 
--- MV-04 for the new value of a column: a literal of the wrong kind, or `+` or `-` where one of the two columns is a text
--- column; the column set prints
+-- the two columns are of one kind
+abbrev pub are_one_kind : TableDef → ℕ → ℕ → Bool
+are_one_kind d b c = agrees (part_sort d (Col b)) (part_sort d (Col c))
+
+-- MV-04 for the new value of a column: a literal of the wrong kind, or `+` or `-` of a text column or of one of another kind
+-- than the column set; the column set prints
 abbrev pub new_value_refusal : TableDef → ℕ → NewValue → Option Refusal
 new_value_refusal d c (Given l) = value_misfits d c (given_value l)
 new_value_refusal d c (Moved from n) =
-    where_true (not (is_number_column d (place_of d from) && is_number_column d c)) (ValueDoesNotFit d.name (column_name d c))
+    where_true (not (is_counted_column d (place_of d from) && are_one_kind d (place_of d from) c)) (ValueDoesNotFit d.name (column_name d c))
 
 abbrev pub set_refusal : TableDef → SetColumn → Option Refusal
 set_refusal d s = new_value_refusal d (place_of d s.column) s.value
 
--- the new value, by the row's old values: a literal, or an old value with a number added; NULL where the old value is
+-- the new value, by the row's old values: a literal, or an old value with a number added, which is so many days for a day; NULL
+-- where the old value is
 abbrev pub new_value : TableDef → List Value → NewValue → Value
 new_value d old (Given l) = given_value l
 new_value d old (Moved from n) = added_value (value_at old (place_of d from)) n
@@ -267,10 +275,11 @@ statement_asks base _ = Err SelectInBlock
 abbrev pub byte_is_barred : ℕ → Bool
 byte_is_barred b = nat_lt b 32 || (b == 127)
 
--- the column may hold the value: a number within its digits, a text within its bytes and without a barred byte, or NULL
+-- the column may hold the value: a number within its digits, a text within its bytes and without a barred byte, a day, or NULL
 abbrev pub fits_kind : Kind → Value → Bool
 fits_kind (kind.Number p) (Num n) = nat_lt (nat_abs n) (10 ^ p)
 fits_kind (kind.Text n) (Text t) = nat_le (length t) n && not (list_any byte_is_barred t)
+fits_kind kind.Date (Day n) = is_day n
 fits_kind k v = is_null v
 
 -- MV-04 for a value that the column may not hold, then MV-05 for NULL in a NOT NULL column
@@ -289,13 +298,13 @@ has_no_partition t vs = option_case (row_key t vs) false (λ key. is_none (part_
 abbrev pub moves_row : Table → Option (List Value) → List Value → Bool
 moves_row t old new = option_case old false (λ vs. not (mark_of t vs == mark_of t new))
 
--- a row as a change leaves it: its columns from the left, then MV-09, then MV-10
+-- a row as a change leaves it: its columns from the left, then MV-09, then MV-10 where the table has no row movement
 abbrev pub new_row_refusal : Table → Option (List Value) → List Value → Option Refusal
 new_row_refusal t old new =
     first_some (
     first_of (column_refusal t.def) (zip t.def.columns new)
     ∷ where_true (has_no_partition t new) (NoPartition t.def.name)
-    ∷ where_true (moves_row t old new) (RowMovement t.def.name)
+    ∷ where_true (moves_row t old new && not t.def.movement) (RowMovement t.def.name)
     ∷ [])
 
 -- the refusal of one change; a deleted row has none
@@ -366,13 +375,32 @@ final_refusal base n kept changes =
     ∷ where_true (nat_lt max_versions (kept + new_versions base changes)) (VersionsFull t.def.name)
     ∷ [])
 
+-- ---- rows that move
+
+-- the change gives the row a key of another partition, and the table has row movement
+abbrev pub is_moved : Table → Change → Bool
+is_moved t c = t.def.movement && option_case c.new false (moves_row t c.old)
+
+-- such a row is removed, and its new values are appended under the next rowid
+abbrev pub moved_changes : Change → ℕ → List Change
+moved_changes c rowid = record { rowid = c.rowid; old = c.old; new = None } ∷ record { rowid = rowid; old = None; new = c.new } ∷ []
+
+-- the changes that are made of those asked, where so many rowids of the table were given before
+abbrev pub made_changes : Table → ℕ → List Change → List Change
+made_changes t given [] = []
+made_changes t given (c ∷ cs) =
+    cond (is_moved t c) (moved_changes c (suc given) ++ made_changes t (suc given) cs)
+    (c ∷ made_changes t (cond (is_insert c) (suc given) given) cs)
+
 -- ---- the block
 
--- how far a block has come: the base state, the changes in the order made, and how many rows it scanned
+-- how far a block has come: the base state, the changes in the order made, how many rows it scanned, and how many it
+-- changed, where the two changes of a moved row count once
 pub record Progress : Type 0 where
   pub base : Base
   pub changes : List TableChange
   pub scanned : ℕ
+  pub rows : ℕ
 
 -- the refusal of a block: the number of its statement, the code, and how many rows it scanned up to then
 pub record Stopped : Type 0 where
@@ -389,11 +417,12 @@ stop_at at scanned None done = Ok done
 abbrev pub make_changes : ℕ → ℕ → Progress → Asks → Result Progress Stopped
 make_changes kept at p a =
     let t = table_at p.base a.table in
-    let base = with_table p.base a.table (table_after t a.changes) in
-    let changes = p.changes ++ map (λ c. record { table = a.table; change = c }) a.changes in
+    let made = made_changes t t.given a.changes in
+    let base = with_table p.base a.table (table_after t made) in
+    let changes = p.changes ++ map (λ c. record { table = a.table; change = c }) made in
     let scanned = p.scanned + a.scanned in
     stop_at at scanned (first_some (first_of (changed_row_refusal t) a.changes ∷ final_refusal base a.table kept changes ∷ []))
-    (record { base = base; changes = changes; scanned = scanned })
+    (record { base = base; changes = changes; scanned = scanned; rows = p.rows + length a.changes })
 
 -- a statement whose first step is refused has scanned nothing
 abbrev pub run_asked : ℕ → ℕ → Progress → Result Asks Refusal → Result Progress Stopped
@@ -411,4 +440,4 @@ run_statements kept at p (s ∷ ss) = run_statement kept at p s >>= (λ q. run_s
 -- the effect of a block on a base state with so many kept row versions: the new base state, the changes and how many rows
 -- it scanned, or its first refusal
 abbrev pub effect : Base → ℕ → List Statement → Result Progress Stopped
-effect base kept statements = run_statements kept 1 (record { base = base; changes = []; scanned = 0 }) statements
+effect base kept statements = run_statements kept 1 (record { base = base; changes = []; scanned = 0; rows = 0 }) statements

@@ -17,7 +17,7 @@ use Rattle.wh_base.specs.declared.statements.NewRange.{NewRange}
 use Rattle.wh_base.specs.declared.statements.NewTable.{NewTable}
 use Rattle.wh_base.specs.declared.statements.Partitioning.{Partitioning}
 use Rattle.wh_base.specs.declared.statements.RawKind.{RawKind}
-use Rattle.wh_base.specs.declared.statements.RawKind.TheVariants.{Bytes, Digits}
+use Rattle.wh_base.specs.declared.statements.RawKind.TheVariants.{Bytes, Days, Digits}
 use Rattle.wh_base.specs.declared.statements.Reference.{Reference}
 use Rattle.wh_base.specs.declared.statements.TablePart.{TablePart}
 use Rattle.wh_base.specs.declared.tables.ColumnDef.{ColumnDef}
@@ -89,11 +89,13 @@ is_in_size (negsuc n) most = false
 abbrev pub size_holds : RawKind → Bool
 size_holds (Digits n) = option_case n true (λ p. is_in_size p 15)
 size_holds (Bytes n) = is_in_size n 64
+size_holds Days = true
 
 -- the kind of a column; NUMBER without digits has 15
 abbrev pub new_kind : RawKind → Kind
 new_kind (Digits n) = kind.Number (option_case n 15 nat_abs)
 new_kind (Bytes n) = kind.Text (nat_abs n)
+new_kind Days = kind.Date
 
 -- the column is the primary key, and it is the partition key
 abbrev pub is_primary : NewTable → NewColumn → Bool
@@ -275,6 +277,7 @@ table_def defs s =
       primary = option_and_then (λ k. new_place s k.column) (find (λ k. k.primary) (new_keys s));
       foreign = filter_map (foreign_def defs s) (new_foreign s);
       part_key = option_and_then (λ p. new_place s p.column) s.partitioning;
+      movement = s.movement;
     }
 
 -- partitions are numbered as they are made, from 1

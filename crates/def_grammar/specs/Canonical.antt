@@ -1,5 +1,6 @@
 -- The canonical text of a query: the tokens of each of its parts, and how tokens are laid out as a text.
 use Rattle.std.specs.Prelude.{Bool, List, None, Option, Some, [], codes, cond, decimal, false, flat_map, not, suc, true, ℕ, ℤ, ◌&&◌, ◌++◌, ◌∷◌, ◌||◌, pos, negsuc}
+use Rattle.wh_base.specs.Days.{day_text}
 use Rattle.wh_base.specs.declared.queries.ColName.{ColName}
 use Rattle.wh_base.specs.declared.queries.NamePart.{NamePart}
 use Rattle.wh_base.specs.declared.queries.NamePart.TheVariants.{MarkName, Plain, RowIdName}
@@ -20,12 +21,12 @@ use Rattle.wh_base.specs.declared.queries.RawTest.{RawTest}
 use Rattle.wh_base.specs.declared.queries.RawWhat.{RawWhat}
 use Rattle.wh_base.specs.declared.queries.RawWhat.TheVariants as what
 use Rattle.wh_base.specs.declared.values.Literal.{Literal}
-use Rattle.wh_base.specs.declared.values.Literal.TheVariants.{Number, Quoted}
+use Rattle.wh_base.specs.declared.values.Literal.TheVariants.{Dated, Number, Quoted}
 use Rattle.wh_base.specs.declared.values.Op.{Op}
 use Rattle.wh_base.specs.declared.values.Op.TheVariants.{Eq, Ge, Gt, Le, Lt, Ne}
-use Rattle.wh_lex.specs.declared.token.Token.{Token}
-use Rattle.wh_lex.specs.declared.token.TokenKind.{TokenKind}
-use Rattle.wh_lex.specs.declared.token.TokenKind.TheVariants as tokens
+use Rattle.wh_base.specs.declared.tokens.Token.{Token}
+use Rattle.wh_base.specs.declared.tokens.TokenKind.{TokenKind}
+use Rattle.wh_base.specs.declared.tokens.TokenKind.TheVariants as tokens
 use Rattle.def_grammar.specs.Reading.{doubled, is_token, same_token_kind}
 
 -- ---- tokens of no place
@@ -52,6 +53,7 @@ signed_tokens (negsuc n) = marked (codes "-") ++ numbered (suc n)
 abbrev pub literal_tokens : Literal → List Token
 literal_tokens (Number z) = signed_tokens z
 literal_tokens (Quoted text) = bare tokens.Text text ∷ []
+literal_tokens (Dated n) = named (codes "DATE") ++ bare tokens.Text (day_text n) ∷ []
 
 abbrev pub qualifier_tokens : Option (List ℕ) → List Token
 qualifier_tokens None = []

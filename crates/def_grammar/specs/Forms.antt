@@ -1,7 +1,7 @@
 -- The grammar of the statements. Each rule stands below its line of the grammar, as for a SELECT.
 use Rattle.std.specs.List.{list_all, list_any}
-use Rattle.std.specs.Prelude.{Bool, Err, List, None, Ok, Option, Result, Some, [], codes, cond, count_by, false, flat_map, is_none, length, nat_le, neg_ℤ, not, option_map, pos, take, true, ℕ, ◌&&◌, ◌-◌, ◌==◌, ◌||◌, ◌∷◌}
-use Rattle.wh_base.specs.Lists.{option_case, where_true}
+use Rattle.std.specs.Prelude.{Bool, Err, List, None, Ok, Option, Result, Some, [], codes, cond, count_by, false, flat_map, is_none, length, map, nat_le, nat_lt, neg_ℤ, not, option_and_then, option_map, pos, reverse, take, true, ℕ, ◌&&◌, ◌-◌, ◌==◌, ◌||◌, ◌∷◌}
+use Rattle.wh_base.specs.Lists.{all_there, option_case, where_true}
 use Rattle.wh_base.specs.declared.queries.ColName.{ColName}
 use Rattle.wh_base.specs.declared.queries.NamePart.{NamePart}
 use Rattle.wh_base.specs.declared.queries.NamePart.TheVariants.{MarkName, Plain, RowIdName}
@@ -11,6 +11,7 @@ use Rattle.wh_base.specs.declared.statements.ColumnMark.{ColumnMark}
 use Rattle.wh_base.specs.declared.statements.JoinKey.{JoinKey}
 use Rattle.wh_base.specs.declared.statements.Level.{Level}
 use Rattle.wh_base.specs.declared.statements.Level.TheVariants.{Enforced, StaleTolerated, Trusted}
+use Rattle.wh_base.specs.declared.statements.MergeParts.{MergeParts}
 use Rattle.wh_base.specs.declared.statements.Method.{Method}
 use Rattle.wh_base.specs.declared.statements.Method.TheVariants.{Complete, Fast, Force, Partition}
 use Rattle.wh_base.specs.declared.statements.NewAttribute.{NewAttribute}
@@ -20,12 +21,13 @@ use Rattle.wh_base.specs.declared.statements.NewRange.{NewRange}
 use Rattle.wh_base.specs.declared.statements.NewValue.{NewValue}
 use Rattle.wh_base.specs.declared.statements.NewValue.TheVariants.{Given, Moved}
 use Rattle.wh_base.specs.declared.statements.PartChange.{PartChange}
-use Rattle.wh_base.specs.declared.statements.PartChange.TheVariants.{Add, DropPart, Truncate}
+use Rattle.wh_base.specs.declared.statements.PartChange.TheVariants.{Add, DropPart, Merge, Movement, Split, Truncate}
 use Rattle.wh_base.specs.declared.statements.Partitioning.{Partitioning}
 use Rattle.wh_base.specs.declared.statements.RawKind.{RawKind}
-use Rattle.wh_base.specs.declared.statements.RawKind.TheVariants.{Bytes, Digits}
+use Rattle.wh_base.specs.declared.statements.RawKind.TheVariants.{Bytes, Days, Digits}
 use Rattle.wh_base.specs.declared.statements.Reference.{Reference}
 use Rattle.wh_base.specs.declared.statements.SetColumn.{SetColumn}
+use Rattle.wh_base.specs.declared.statements.SplitPart.{SplitPart}
 use Rattle.wh_base.specs.declared.statements.Statement.{Statement}
 use Rattle.wh_base.specs.declared.statements.Statement.TheVariants.{ExplainQuery, Refresh, Select}
 use Rattle.wh_base.specs.declared.statements.ChangeStatement.TheVariants.{Delete, Insert, Update}
@@ -41,10 +43,10 @@ use Rattle.wh_base.specs.declared.statements.TableColumn.{TableColumn}
 use Rattle.wh_base.specs.declared.statements.TablePart.{TablePart}
 use Rattle.wh_base.specs.declared.values.Literal.{Literal}
 use Rattle.def_grammar.specs.Query.{literal, select, where_conditions}
-use Rattle.def_grammar.specs.Reading.{Rule, bracketed, gives, listed, many, mapped, mark, maybe, name, number, optional_list, quoted, spelled, whole, word, ◌>>=◌, ◌>>◌, ◌or◌}
+use Rattle.def_grammar.specs.Reading.{Rule, bracketed, gives, listed, many, mapped, mark, maybe, name, number, optional_list, quoted, whole, word, ◌>>=◌, ◌>>◌, ◌or◌}
 use Rattle.wh_lex.specs.Lex.{tokens_of}
 use Rattle.wh_lex.specs.declared.lex.LexFault.{LexFault}
-use Rattle.wh_lex.specs.declared.token.Token.{Token}
+use Rattle.wh_base.specs.declared.tokens.Token.{Token}
 use Rattle.def_resolve.specs.Names.{condition_names}
 use Rattle.wh_base.specs.declared.statements.TablePart.TheVariants as parts
 use Rattle.wh_base.specs.declared.statements.ColumnMark.TheVariants as marks
@@ -54,9 +56,9 @@ abbrev pub all_words : List (List ℕ) → Rule Bool
 all_words [] = gives true
 all_words (w ∷ ws) = word w >> all_words ws
 
--- a SELECT, with a text that reads as its tokens
+-- a SELECT, with its tokens
 abbrev pub asked : Rule Asked
-asked ts = option_map (λ p. (record { query = p.0; text = spelled (take (length ts - length p.1) ts) }, p.1)) (select ts)
+asked ts = option_map (λ p. (record { query = p.0; tokens = take (length ts - length p.1) ts }, p.1)) (select ts)
 
 -- ---- rows
 
@@ -128,9 +130,10 @@ dml = insert or update or delete
 
 -- ---- tables
 
--- kind = NUMBER [( number )] | VARCHAR2 ( number )
+-- kind = NUMBER [( number )] | VARCHAR2 ( number ) | DATE
 abbrev pub kind : Rule RawKind
 kind = mapped Digits (word (codes "NUMBER") >> maybe (bracketed (mapped pos number))) or mapped Bytes (word (codes "VARCHAR2") >> bracketed (mapped pos number))
+    or mapped (λ _. Days) (word (codes "DATE"))
 
 -- ref = REFERENCES name [( name )] [RELY DISABLE NOVALIDATE | ENABLE VALIDATE]; without either it is enabled and validated
 abbrev pub reference : Rule Reference
@@ -197,21 +200,64 @@ partitioning = do
   rs ← bracketed (listed range)
   gives (record { column = c; ranges = rs })
 
--- CREATE TABLE name ( part {, part} ) [PARTITION BY ..]
+-- [ENABLE ROW MOVEMENT], behind partitions alone
+abbrev pub movement_behind : Option Partitioning → Rule Bool
+movement_behind None = gives false
+movement_behind (Some p) = (all_words (codes "ENABLE" ∷ codes "ROW" ∷ codes "MOVEMENT" ∷ []) >> gives true) or gives false
+
+-- CREATE TABLE name ( part {, part} ) [PARTITION BY .. [ENABLE ROW MOVEMENT]]
 abbrev pub create_table : Rule Statement
 create_table = do
   all_words (codes "CREATE" ∷ codes "TABLE" ∷ [])
   t ← name
   ps ← bracketed (listed (key_part or foreign_part or new_column_part))
   p ← maybe partitioning
-  gives (about.Table (CreateTable (record { name = t; parts = ps; partitioning = p })))
+  m ← movement_behind p
+  gives (about.Table (CreateTable (record { name = t; parts = ps; partitioning = p; movement = m })))
 
--- ADD range | DROP PARTITION name | TRUNCATE PARTITION name
+-- SPLIT PARTITION name AT ( literal ) INTO ( PARTITION name , PARTITION name )
+abbrev pub split_part : Rule SplitPart
+split_part = do
+  all_words (codes "SPLIT" ∷ codes "PARTITION" ∷ [])
+  p ← name
+  word (codes "AT")
+  v ← bracketed literal
+  word (codes "INTO")
+  mark (codes "(")
+  word (codes "PARTITION")
+  l ← name
+  mark (codes ",")
+  word (codes "PARTITION")
+  u ← name
+  mark (codes ")")
+  gives (record { name = p; at = v; lower = l; upper = u })
+
+-- MERGE PARTITIONS name , name INTO PARTITION name
+abbrev pub merge_parts : Rule MergeParts
+merge_parts = do
+  all_words (codes "MERGE" ∷ codes "PARTITIONS" ∷ [])
+  l ← name
+  mark (codes ",")
+  u ← name
+  all_words (codes "INTO" ∷ codes "PARTITION" ∷ [])
+  n ← name
+  gives (record { lower = l; upper = u; name = n })
+
+-- (ENABLE | DISABLE) ROW MOVEMENT
+abbrev pub row_movement : Rule Bool
+row_movement =
+    (all_words (codes "ENABLE" ∷ codes "ROW" ∷ codes "MOVEMENT" ∷ []) >> gives true)
+    or (all_words (codes "DISABLE" ∷ codes "ROW" ∷ codes "MOVEMENT" ∷ []) >> gives false)
+
+-- ADD range | DROP PARTITION name | TRUNCATE PARTITION name | SPLIT .. | MERGE .. | (ENABLE | DISABLE) ROW MOVEMENT
 abbrev pub part_change : Rule PartChange
 part_change =
     mapped Add (word (codes "ADD") >> range)
     or mapped DropPart (all_words (codes "DROP" ∷ codes "PARTITION" ∷ []) >> name)
     or mapped Truncate (all_words (codes "TRUNCATE" ∷ codes "PARTITION" ∷ []) >> name)
+    or mapped Split split_part
+    or mapped Merge merge_parts
+    or mapped Movement row_movement
 
 -- ALTER TABLE name and one of these
 abbrev pub alter_table : Rule Statement
@@ -420,18 +466,72 @@ method_text ts = option_case (quoted ts) None (λ p. option_map (λ m. (m, p.1))
 abbrev pub name_text_token : Rule (List ℕ)
 name_text_token ts = option_case (quoted ts) None (λ p. option_map (λ n. (n, p.1)) (name_in p.0))
 
--- refresh = (EXECUTE | EXEC) DBMS_MVIEW . REFRESH ( text [, text] )
-abbrev pub refresh : Rule Statement
-refresh = do
+-- a text without the spaces in front, and without those behind
+abbrev pub without_spaces_before : List ℕ → List ℕ
+without_spaces_before [] = []
+without_spaces_before (b ∷ bs) = cond (b == 32) (without_spaces_before bs) (b ∷ bs)
+
+abbrev pub without_spaces_behind : List ℕ → List ℕ
+without_spaces_behind text = reverse (without_spaces_before (reverse text))
+
+-- the byte in front of the first piece
+abbrev pub onto_piece : ℕ → List (List ℕ) → List (List ℕ)
+onto_piece b [] = (b ∷ []) ∷ []
+onto_piece b (p ∷ ps) = (b ∷ p) ∷ ps
+
+-- the pieces between commas; there is always at least one
+abbrev pub between_commas : List ℕ → List (List ℕ)
+between_commas [] = [] ∷ []
+between_commas (b ∷ bs) = cond (b == 44) ([] ∷ between_commas bs) (onto_piece b (between_commas bs))
+
+-- the same without the spaces around the commas: those behind a piece that another follows, and those in front of one behind a comma
+abbrev pub behind_comma : List (List ℕ) → List (List ℕ)
+behind_comma [] = []
+behind_comma (p ∷ []) = without_spaces_before p ∷ []
+behind_comma (p ∷ q ∷ ps) = without_spaces_behind (without_spaces_before p) ∷ behind_comma (q ∷ ps)
+
+abbrev pub name_pieces : List (List ℕ) → List (List ℕ)
+name_pieces [] = []
+name_pieces (p ∷ []) = p ∷ []
+name_pieces (p ∷ q ∷ ps) = without_spaces_behind p ∷ behind_comma (q ∷ ps)
+
+-- the names that a text lists
+abbrev pub names_in : List ℕ → Option (List (List ℕ))
+names_in text = all_there (map name_in (name_pieces (between_commas text)))
+
+-- the longest list of a refresh
+abbrev pub max_names : ℕ
+max_names = 64
+
+-- the first of a list of at most so many names, and the names after it
+abbrev pub as_list : List (List ℕ) → Option (List ℕ × List (List ℕ))
+as_list [] = None
+as_list (n ∷ ns) = where_true (nat_lt (length ns) max_names) (n, ns)
+
+-- a quoted text that is such a list
+abbrev pub name_list_token : Rule (List ℕ × List (List ℕ))
+name_list_token ts = option_case (quoted ts) None (λ p. option_map (λ l. (l, p.1)) (option_and_then as_list (names_in p.0)))
+
+-- (EXECUTE | EXEC) DBMS_MVIEW . REFRESH ( text [, text] ), where this rule reads the names
+abbrev pub refresh_of : Rule (List ℕ × List (List ℕ)) → Rule Statement
+refresh_of names = do
   word (codes "EXECUTE") or word (codes "EXEC")
   word (codes "DBMS_MVIEW")
   mark (codes ".")
   word (codes "REFRESH")
   mark (codes "(")
-  n ← name_text_token
+  l ← names
   m ← maybe (mark (codes ",") >> method_text)
   mark (codes ")")
-  gives (Refresh (record { name = n; method = m }))
+  gives (Refresh (record { name = l.0; method = m; more = l.1 }))
+
+-- refresh = (EXECUTE | EXEC) DBMS_MVIEW . REFRESH ( text [, text] ), of one view or of a list
+abbrev pub refresh : Rule Statement
+refresh = refresh_of name_list_token
+
+-- submit = SUBMIT refresh, of one view
+abbrev pub submit : Rule Statement
+submit = word (codes "SUBMIT") >> refresh_of (mapped (λ n. (n, [])) name_text_token)
 
 -- ---- the others
 
@@ -470,3 +570,7 @@ statement = mapped Select asked or dml or create_table or alter_table or log or 
 -- the statement that all of the tokens are
 abbrev pub statement_of : List Token → Option Statement
 statement_of ts = whole statement ts
+
+-- the refresh that all of the tokens submit
+abbrev pub submit_of : List Token → Option Statement
+submit_of ts = whole submit ts

@@ -68,6 +68,7 @@ pub data Directive : Type 0 where
   EndLoad : Directive
   EndScript : Directive
   Unknown : Directive
+  WorkersAt : List ℕ → Directive
 
 -- `@load` of a word that is a name
 abbrev pub load_of_name : Option (List ℕ) → Directive
@@ -82,7 +83,8 @@ directive_of w [] =
     (cond (same_text w (codes "@endload")) EndLoad (cond (same_text w (codes "@end")) EndScript Unknown)))
 directive_of w (x ∷ []) =
     cond (same_text w (codes "@session")) (SessionAt x)
-    (cond (same_text w (codes "@load")) (load_of_name (name_in x)) (cond (same_text w (codes "@order")) (Order (x ∷ [])) Unknown))
+    (cond (same_text w (codes "@load")) (load_of_name (name_in x))
+    (cond (same_text w (codes "@order")) (Order (x ∷ [])) (cond (same_text w (codes "@workers")) (WorkersAt x) Unknown)))
 directive_of w (x ∷ y ∷ more) = cond (same_text w (codes "@order")) (Order (x ∷ y ∷ more)) Unknown
 
 abbrev pub directive_by_words : List (List ℕ) → Directive

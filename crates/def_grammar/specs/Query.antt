@@ -1,6 +1,7 @@
 -- The grammar of a SELECT, and of the literals and conditions that other statements share. Each rule stands below its line
 -- of the grammar: `[r]` may be left out, `{r}` stands any number of times, `a | b` is one of both.
-use Rattle.std.specs.Prelude.{List, None, Option, Some, codes, false, neg_ℤ, pos, true, ℕ, ℤ, ◌∷◌}
+use Rattle.std.specs.Prelude.{List, None, Option, Some, codes, false, neg_ℤ, option_map, pos, true, ℕ, ℤ, ◌∷◌}
+use Rattle.wh_base.specs.DayTexts.{day_of}
 use Rattle.wh_base.specs.declared.queries.ColName.{ColName}
 use Rattle.wh_base.specs.declared.queries.NamePart.{NamePart}
 use Rattle.wh_base.specs.declared.queries.NamePart.TheVariants.{MarkName, Plain, RowIdName}
@@ -16,10 +17,10 @@ use Rattle.wh_base.specs.declared.queries.RawQuery.{RawQuery}
 use Rattle.wh_base.specs.declared.queries.RawTable.{RawTable}
 use Rattle.wh_base.specs.declared.queries.RawTest.{RawTest}
 use Rattle.wh_base.specs.declared.values.Literal.{Literal}
-use Rattle.wh_base.specs.declared.values.Literal.TheVariants.{Number, Quoted}
+use Rattle.wh_base.specs.declared.values.Literal.TheVariants.{Dated, Number, Quoted}
 use Rattle.wh_base.specs.declared.values.Op.{Op}
 use Rattle.wh_base.specs.declared.values.Op.TheVariants.{Eq, Ge, Gt, Le, Lt, Ne}
-use Rattle.def_grammar.specs.Reading.{Rule, bracketed, gives, listed, many, mapped, mark, maybe, name, number, optional_list, quoted, word, ◌>>=◌, ◌>>◌, ◌or◌}
+use Rattle.def_grammar.specs.Reading.{Rule, bracketed, gives, listed, made_by, many, mapped, mark, maybe, name, number, optional_list, quoted, word, ◌>>=◌, ◌>>◌, ◌or◌}
 use Rattle.wh_base.specs.declared.queries.RawWhat.TheVariants as what
 use Rattle.wh_base.specs.declared.queries.RawCondition.TheVariants as raw
 use Rattle.wh_base.specs.declared.queries.RawOrder.TheVariants as order
@@ -28,9 +29,13 @@ use Rattle.wh_base.specs.declared.queries.RawOrder.TheVariants as order
 abbrev pub signed : Rule ℤ
 signed = (mark (codes "-") >> mapped (λ n. neg_ℤ (pos n)) number) or mapped pos number
 
--- literal = [-] number | text
+-- date = DATE text, where the text is YYYY-MM-DD and names a day of the calendar
+abbrev pub date : Rule Literal
+date = word (codes "DATE") >> made_by (λ text. option_map Dated (day_of text)) quoted
+
+-- literal = [-] number | text | date
 abbrev pub literal : Rule Literal
-literal = mapped Number signed or mapped Quoted quoted
+literal = mapped Number signed or mapped Quoted quoted or date
 
 -- qualifier = [name .]
 abbrev pub qualifier : Rule (Option (List ℕ))

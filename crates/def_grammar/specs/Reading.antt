@@ -1,10 +1,10 @@
 -- How rules of the grammar read tokens, and the pieces from which they are put together.
-use Rattle.std.specs.Prelude.{Bool, List, None, Option, Some, [], codes, cond, false, flat_map, length, not, option_map, suc, true, unwrap_or, zero, ℕ, ◌&&◌, ◌++◌, ◌==◌, ◌∷◌}
+use Rattle.std.specs.Prelude.{Bool, List, None, Option, Some, [], codes, cond, false, length, not, option_map, suc, true, unwrap_or, zero, ℕ, ◌&&◌, ◌==◌, ◌∷◌}
 use Rattle.wh_base.specs.Lists.{has_text, is_empty, option_case, same_text, where_true}
 use Rattle.wh_base.specs.Values.{digits_number}
-use Rattle.wh_lex.specs.declared.token.Token.{Token}
-use Rattle.wh_lex.specs.declared.token.TokenKind.{TokenKind}
-use Rattle.wh_lex.specs.declared.token.TokenKind.TheVariants as tokens
+use Rattle.wh_base.specs.declared.tokens.Token.{Token}
+use Rattle.wh_base.specs.declared.tokens.TokenKind.{TokenKind}
+use Rattle.wh_base.specs.declared.tokens.TokenKind.TheVariants as tokens
 
 -- a rule reads from the front of the tokens: it gives what stands there and the tokens after it, or None where nothing does
 abbrev pub Rule : Type 0 → Type 0
@@ -84,7 +84,7 @@ reserved =
     ∷ codes "ON" ∷ codes "AND" ∷ codes "AS" ∷ codes "OF" ∷ codes "SCN" ∷ codes "IN" ∷ codes "IS" ∷ codes "NOT" ∷ codes "NULL" ∷ codes "BETWEEN"
     ∷ codes "ASC" ∷ codes "DESC" ∷ codes "ROWID" ∷ codes "COUNT" ∷ codes "SUM" ∷ codes "AVG" ∷ codes "MIN" ∷ codes "MAX" ∷ codes "BEGIN"
     ∷ codes "COMMIT" ∷ codes "INSERT" ∷ codes "INTO" ∷ codes "VALUES" ∷ codes "UPDATE" ∷ codes "SET" ∷ codes "DELETE" ∷ codes "CREATE"
-    ∷ codes "ALTER" ∷ codes "DROP" ∷ codes "TABLE" ∷ codes "LEVEL" ∷ codes "HIERARCHY" ∷ codes "ATTRIBUTE" ∷ []
+    ∷ codes "ALTER" ∷ codes "DROP" ∷ codes "TABLE" ∷ codes "LEVEL" ∷ codes "HIERARCHY" ∷ codes "ATTRIBUTE" ∷ codes "DATE" ∷ []
 
 abbrev pub is_name : Token → Bool
 is_name t = same_token_kind t.kind tokens.Name && not (has_text reserved t.text)
@@ -100,6 +100,10 @@ number = mapped (λ t. unwrap_or (digits_number t.text) 0) (token_where (λ t. s
 -- a text in quotes; it gives what stands between them
 abbrev pub quoted : Rule (List ℕ)
 quoted = mapped (λ t. t.text) (token_where (λ t. same_token_kind t.kind tokens.Text))
+
+-- what a rule gives, where the function makes something of it
+abbrev pub made_by : {A B : Type 0} → (A → Option B) → Rule A → Rule B
+made_by f r ts = option_case (r ts) None (λ p. option_map (λ x. (x, p.1)) (f p.0))
 
 -- ---- lists and brackets
 
@@ -119,16 +123,8 @@ optional_list r = mapped (λ o. unwrap_or o []) (maybe r)
 abbrev pub whole : {A : Type 0} → Rule A → List Token → Option A
 whole r ts = option_case (r ts) None (λ p. where_true (is_empty p.1) p.0)
 
--- ---- a text for tokens
+-- ---- quotes
 
 -- a quote stands twice within a text
 abbrev pub doubled : ℕ → List ℕ
 doubled b = cond (b == 39) (39 ∷ 39 ∷ []) (b ∷ [])
-
--- a token as it is written, with a space behind it
-abbrev pub spelled_token : Token → List ℕ
-spelled_token t = cond (same_token_kind t.kind tokens.Text) (39 ∷ flat_map doubled t.text ++ 39 ∷ 32 ∷ []) (t.text ++ 32 ∷ [])
-
--- a text whose tokens are these
-abbrev pub spelled : List Token → List ℕ
-spelled ts = flat_map spelled_token ts

@@ -3,8 +3,8 @@
 use Rattle.csv.specs.Machine.{next_record}
 use Rattle.csv.specs.Reading.{default_config, strip_bom}
 use Rattle.csv.specs.declared.parser.State.{State}
-use Rattle.std.specs.List.{list_any}
-use Rattle.std.specs.Prelude.{Bool, Err, List, None, Ok, Option, Result, Some, [], codes, cond, count_by, decimal, false, find, flat_map, is_none, is_some, length, map, max, nat_le, nat_lt, not, option_and_then, option_map, option_to_list, suc, sum_by, take, true, unwrap_or, zero, ℕ, ◌&&◌, ◌++◌, ◌+◌, ◌-◌, ◌==◌, ◌||◌, ◌∷◌}
+use Rattle.std.specs.List.{list_all, list_any}
+use Rattle.std.specs.Prelude.{Bool, Err, List, None, Ok, Option, Result, Some, [], codes, cond, count_by, decimal, false, find, flat_map, is_none, is_some, length, map, max, nat_le, nat_lt, not, option_and_then, option_map, option_to_list, suc, sum_by, take, take_while, true, unwrap_or, zero, ℕ, ◌&&◌, ◌++◌, ◌+◌, ◌-◌, ◌==◌, ◌||◌, ◌∷◌}
 use Rattle.std.specs.Str.Lossy.{utf8_valid_len}
 use Rattle.wh_base.specs.Lists.{first_some, head, is_empty, last, option_case, same_text, unless, unless_then, where_true}
 use Rattle.wh_base.specs.Parts.{section_entries}
@@ -19,14 +19,14 @@ use Rattle.wh_base.specs.declared.statements.Statement.{Statement}
 use Rattle.wh_base.specs.declared.statements.Statement.TheVariants.{Select}
 use Rattle.wh_base.specs.declared.statements.ChangeStatement.TheVariants.{Delete, Insert, Load, Update}
 use Rattle.wh_base.specs.declared.statements.Statement.TheVariants as about
-use Rattle.def_grammar.specs.Forms.{kind, statement_of, tokens_or_none}
-use Rattle.def_grammar.specs.Lines.{Directive, DirectiveAt, EndAt, EndLoad, EndScript, Line, LoadBlock, LoadOf, Order, Piece, SessionAt, Setup, TextRun, Unknown, lines_of, pieces}
+use Rattle.def_grammar.specs.Forms.{kind, statement_of, submit_of, tokens_or_none}
+use Rattle.def_grammar.specs.Lines.{Directive, DirectiveAt, EndAt, EndLoad, EndScript, Line, LoadBlock, LoadOf, Order, Piece, SessionAt, Setup, TextRun, Unknown, WorkersAt, lines_of, pieces}
 use Rattle.def_grammar.specs.Reading.{is_token, whole, word}
 use Rattle.wh_lex.specs.Lex.{tokens_from}
 use Rattle.wh_lex.specs.declared.lex.LexFault.{LexFault}
-use Rattle.wh_lex.specs.declared.token.Token.{Token}
+use Rattle.wh_base.specs.declared.tokens.Token.{Token}
 use Rattle.wh_base.specs.Lists.{◌>>=◌}  --
-use Rattle.wh_lex.specs.declared.token.TokenKind.TheVariants as kinds
+use Rattle.wh_base.specs.declared.tokens.TokenKind.TheVariants as kinds
 use Rattle.wh_lex.specs.declared.lex.LexFault.TheVariants as faults
 use Rattle.wh_base.specs.declared.statements.Command.TheVariants as commands
 use Rattle.csv.specs.declared.parser.State.TheVariants as state
@@ -81,19 +81,37 @@ abbrev pub elements_by : ℕ → List ℕ → Result (List Token) LexFault → L
 elements_by place bytes (Ok ts) = stated ts
 elements_by place bytes (Err e) = stated (tokens_or_none (tokens_from 0 place (take (fault_place e - place) bytes))) ++ fault_element e
 
-abbrev pub text_elements : ℕ → List ℕ → List Element
-text_elements place bytes = elements_by place bytes (tokens_from 0 place bytes)
+-- the tokens that begin before this place
+abbrev pub tokens_before : ℕ → List Token → List Token
+tokens_before place ts = take_while (λ t. nat_lt t.start place) ts
+
+-- the same of a text that has a byte that is no UTF-8 at `broken`. Tokens are read by bytes, so a quote behind that byte closes a
+-- text before it; a fault before that byte goes first, and any other is told as NotUtf8 there
+abbrev pub broken_elements_by : ℕ → List ℕ → ℕ → Result (List Token) LexFault → List Element
+broken_elements_by place bytes broken (Ok ts) = stated (tokens_before broken ts) ++ Unreadable NotUtf8 broken ∷ []
+broken_elements_by place bytes broken (Err e) =
+    cond (nat_lt (fault_place e) broken) (elements_by place bytes (Err e))
+    (stated (tokens_before broken (tokens_or_none (tokens_from 0 place (take (fault_place e - place) bytes)))) ++ Unreadable NotUtf8 broken ∷ [])
+
+-- a piece of this place and size has the byte behind the valid front of the input
+abbrev pub is_broken_in : ℕ → ℕ → ℕ → Bool
+is_broken_in valid place size = nat_le place valid && nat_lt valid (place + size)
+
+abbrev pub text_elements : ℕ → ℕ → List ℕ → List Element
+text_elements valid place bytes =
+    let read : Result (List Token) LexFault = tokens_from 0 place bytes in
+    cond (is_broken_in valid place (length bytes)) (broken_elements_by place bytes valid read) (elements_by place bytes read)
 
 -- NotUtf8 at the place behind the valid front of the input, where a piece of this place and size has that byte
 abbrev pub broken_within : ℕ → ℕ → ℕ → List Element
-broken_within valid place size = cond (nat_le place valid && nat_lt valid (place + size)) (Unreadable NotUtf8 valid ∷ []) []
+broken_within valid place size = cond (is_broken_in valid place size) (Unreadable NotUtf8 valid ∷ []) []
 
 abbrev pub size_of : List Line → ℕ
 size_of ls = sum_by (λ l. length l.raw) ls
 
 -- the elements of a piece, where the first `valid` bytes of the input are UTF-8. What stands before such a byte goes first
 abbrev pub piece_elements : ℕ → Piece → List Element
-piece_elements valid (TextRun place bytes) = text_elements place (take (valid - place) bytes) ++ broken_within valid place (length bytes)
+piece_elements valid (TextRun place bytes) = text_elements valid place bytes
 piece_elements valid (DirectiveAt l d) = Directed l d ∷ broken_within valid l.place (length l.raw)
 piece_elements valid (LoadBlock l n ls closed) = Loaded l n ls closed ∷ broken_within valid l.place (length l.raw + size_of ls)
 piece_elements valid (EndAt l ls) = Ended l ls ∷ []
@@ -137,17 +155,18 @@ pub record OpenBlockAt : Type 0 where
   pub statements : List Statement
 
 -- how far a script has been read: the sections before, the section that goes on, its open block, the line of a statement that
--- isn't closed, and what `@order` named where it stood
+-- isn't closed, what `@order` named where it stood, and the number that `@workers` had where it stood
 pub record Draft : Type 0 where
   pub before : List Section
   pub now : Option Section
   pub block : Option OpenBlockAt
   pub open_at : Option ℕ
   pub order : Option (List ℕ)
+  pub workers : Option ℕ
 
 -- nothing read
 abbrev pub first_draft : Draft
-first_draft = record { before = []; now = None; block = None; open_at = None; order = None }
+first_draft = record { before = []; now = None; block = None; open_at = None; order = None; workers = None }
 
 abbrev pub sections_of : Draft → List Section
 sections_of d = d.before ++ option_to_list d.now
@@ -185,21 +204,34 @@ is_only_word w ts = is_some (whole (word w) ts)
 abbrev pub Drafted : Type 0
 Drafted = Result Draft BadScript
 
--- a closed statement outside blocks: BEGIN opens one, what isn't in the grammar is Syntax
-abbrev pub take_command : Draft → ℕ → List Token → Drafted
-take_command d line ts =
+-- a closed statement outside blocks that submits nothing: BEGIN opens a block, what isn't in the grammar is Syntax
+abbrev pub take_own : Draft → ℕ → List Token → Drafted
+take_own d line ts =
     cond (is_only_word (codes "BEGIN") ts) (Ok (record d { block = Some (record { line = line; statements = [] }) }))
     (option_case (statement_of ts) (Err (bad line Syntax)) (λ s. Ok (with_command d (command_by s))))
+
+-- the section that goes on is the setup
+abbrev pub in_setup : Draft → Bool
+in_setup d = option_case d.now false (λ s. s.session == 0)
+
+-- a closed statement outside blocks. SUBMIT is Misplaced in the setup
+abbrev pub take_command : Draft → ℕ → List Token → Drafted
+take_command d line ts =
+    option_case (submit_of ts) (take_own d line ts) (λ s. cond (in_setup d) (Err (bad line Misplaced)) (Ok (with_command d (commands.Submit s))))
 
 -- one statement more in the block, or Misplaced for a statement that may not stand there
 abbrev pub with_inner : Draft → OpenBlockAt → ℕ → Statement → Drafted
 with_inner d b line s = cond (is_inner s) (Ok (record d { block = Some (record b { statements = b.statements ++ s ∷ [] }) })) (Err (bad line Misplaced))
 
--- a closed statement in a block: COMMIT closes it, BEGIN is Misplaced, what isn't in the grammar is Syntax
+-- BEGIN and SUBMIT are in the grammar and stand in no block
+abbrev pub is_never_inner : List Token → Bool
+is_never_inner ts = is_only_word (codes "BEGIN") ts || is_some (submit_of ts)
+
+-- a closed statement in a block: COMMIT closes it, BEGIN and SUBMIT are Misplaced, what isn't in the grammar is Syntax
 abbrev pub take_inner : Draft → OpenBlockAt → ℕ → List Token → Drafted
 take_inner d b line ts =
     cond (is_only_word (codes "COMMIT") ts) (Ok (with_command (record d { block = None }) (commands.Block (record { statements = b.statements }))))
-    (cond (is_only_word (codes "BEGIN") ts) (Err (bad line Misplaced)) (option_case (statement_of ts) (Err (bad line Syntax)) (with_inner d b line)))
+    (cond (is_never_inner ts) (Err (bad line Misplaced)) (option_case (statement_of ts) (Err (bad line Syntax)) (with_inner d b line)))
 
 abbrev pub take_closed : Draft → ℕ → List Token → Drafted
 take_closed d line ts = option_case d.block (take_command d line ts) (λ b. take_inner d b line ts)
@@ -227,6 +259,10 @@ open_fault d = first_some (option_map (λ l. bad l OpenStatement) d.open_at ∷ 
 abbrev pub session_number : List ℕ → Option ℕ
 session_number w = option_and_then (λ n. where_true ((nat_le 1 n && nat_le n 64) && same_text (decimal n) w) n) (digits_number w)
 
+-- the number of workers that a word is: in the same form, 1 to 8
+abbrev pub worker_number : List ℕ → Option ℕ
+worker_number w = option_and_then (λ n. where_true (nat_le n 8) n) (session_number w)
+
 -- the number of the last section so far; the setup's is 0
 abbrev pub last_number : Draft → Option ℕ
 last_number d = option_map (λ s. s.session) (last (sections_of d))
@@ -238,16 +274,31 @@ is_later (Some m) n = nat_lt m n
 
 -- a new section of this number
 abbrev pub begin_section : Draft → ℕ → Draft
-begin_section d n = record { before = sections_of d; now = Some (record { session = n; commands = [] }); block = None; open_at = None; order = None }
+begin_section d n =
+    record { before = sections_of d; now = Some (record { session = n; commands = [] }); block = None; open_at = None; order = None; workers = d.workers }
 
--- `@session`: SessionNumber for a word that is no session number, or one that isn't above the last
-abbrev pub begin_session : Draft → ℕ → Option ℕ → Drafted
-begin_session d line None = Err (bad line SessionNumber)
-begin_session d line (Some n) = cond (is_later (last_number d) n) (Ok (begin_section d n)) (Err (bad line SessionNumber))
+-- what is wrong with a word that is no session number, or no number of workers: NotUtf8 where it begins with a byte that is none, which has the same
+-- place and goes first
+abbrev pub word_fault : List ℕ → ScriptKind
+word_fault w = cond (utf8_valid_len w == 0) NotUtf8 SessionNumber
+
+-- `@session`: a word that is no session number, told by this kind, or SessionNumber for one that isn't above the last
+abbrev pub begin_session : Draft → ℕ → ScriptKind → Option ℕ → Drafted
+begin_session d line wrong None = Err (bad line wrong)
+begin_session d line wrong (Some n) = cond (is_later (last_number d) n) (Ok (begin_section d n)) (Err (bad line SessionNumber))
 
 -- the section is that of this session; the setup is no session
 abbrev pub is_section_of : ℕ → Section → Bool
 is_section_of n s = (s.session == n) && not (n == 0)
+
+-- `@workers` ends the setup, and may stand once, behind the setup or where it would be
+abbrev pub may_have_workers : Draft → Bool
+may_have_workers d = is_none d.workers && (is_none d.order && list_all (λ s. s.session == 0) (sections_of d))
+
+-- `@workers`: a word that is no number of workers, told by this kind
+abbrev pub with_workers : Draft → ℕ → ScriptKind → Option ℕ → Drafted
+with_workers d line wrong None = Err (bad line wrong)
+with_workers d line wrong (Some n) = Ok (record { before = sections_of d; now = None; block = None; open_at = None; order = None; workers = Some n })
 
 -- how many parts a session has
 abbrev pub parts_in : List Section → ℕ → ℕ
@@ -270,24 +321,31 @@ order_fault sections line ns =
 
 -- after `@order` no section goes on
 abbrev pub with_order : Draft → List ℕ → Draft
-with_order d ns = record { before = sections_of d; now = None; block = None; open_at = None; order = Some ns }
+with_order d ns = record { before = sections_of d; now = None; block = None; open_at = None; order = Some ns; workers = d.workers }
 
--- `@order`: SessionNumber where a word is no session number, and only then the faults of the order
-abbrev pub order_by : Draft → ℕ → List (Option ℕ) → Drafted
-order_by d line ws =
-    cond (list_any is_none ws) (Err (bad line SessionNumber))
+-- what is wrong with the first of these words that is no session number
+abbrev pub words_fault : List (List ℕ) → ScriptKind
+words_fault ws = option_case (find (λ w. is_none (session_number w)) ws) SessionNumber word_fault
+
+-- `@order`: a word that is no session number, told by this kind, and only then the faults of the order
+abbrev pub order_by : Draft → ℕ → ScriptKind → List (Option ℕ) → Drafted
+order_by d line wrong ws =
+    cond (list_any is_none ws) (Err (bad line wrong))
     (let ns = flat_map option_to_list ws in unless (order_fault (sections_of d) line ns) (with_order d ns))
 
 -- a directive: Misplaced where it may not stand, UnknownDirective where it isn't in the grammar. Both go before what is open
--- there, and that before the faults of its words. `@setup` stands first, `@session` before `@order`, `@order` once
+-- there, and that before the faults of its words. `@setup` stands first, `@workers` before the sessions, `@session` before
+-- `@order`, `@order` once
 abbrev pub take_directive : Draft → ℕ → Directive → Drafted
-take_directive d line Setup = cond (is_empty (sections_of d) && is_none d.order) (Ok (begin_section d 0)) (Err (bad line Misplaced))
-take_directive d line (SessionAt w) = cond (is_none d.order) (unless_then (open_fault d) (begin_session d line (session_number w))) (Err (bad line Misplaced))
-take_directive d line (Order ws) = cond (is_none d.order) (unless_then (open_fault d) (order_by d line (map session_number ws))) (Err (bad line Misplaced))
+take_directive d line Setup =
+    cond (is_empty (sections_of d) && (is_none d.order && is_none d.workers)) (Ok (begin_section d 0)) (Err (bad line Misplaced))
+take_directive d line (SessionAt w) = cond (is_none d.order) (unless_then (open_fault d) (begin_session d line (word_fault w) (session_number w))) (Err (bad line Misplaced))
+take_directive d line (Order ws) = cond (is_none d.order) (unless_then (open_fault d) (order_by d line (words_fault ws) (map session_number ws))) (Err (bad line Misplaced))
 take_directive d line (LoadOf n) = Err (bad line Misplaced)
 take_directive d line EndLoad = Err (bad line Misplaced)
 take_directive d line EndScript = Err (bad line Misplaced)
 take_directive d line Unknown = Err (bad line UnknownDirective)
+take_directive d line (WorkersAt w) = cond (may_have_workers d) (unless_then (open_fault d) (with_workers d line (word_fault w) (worker_number w))) (Err (bad line Misplaced))
 
 -- ---- LOAD blocks
 
@@ -326,7 +384,7 @@ after_fault bytes place behind =
 
 -- the script that was read, and the place behind the line of its end
 abbrev pub finish : Draft → ℕ → Script × ℕ
-finish d place = (record { sections = sections_of d; order = unwrap_or d.order [] }, place)
+finish d place = (record { sections = sections_of d; order = unwrap_or d.order []; workers = unwrap_or d.workers 0 }, place)
 
 -- a script and the place behind its end, or the fault
 abbrev pub Outcome : Type 0

@@ -2,6 +2,7 @@
 use Rattle.std.specs.Char.{is_ascii_alphabetic, is_ascii_digit, to_ascii_uppercase}
 use Rattle.std.specs.List.{list_all}
 use Rattle.std.specs.Prelude.{Bool, List, None, Option, Some, [], codes, false, length, nat_abs, nat_lt, negsuc, not, pos, true, ℕ, ℤ, ◌&&◌, ◌<◌, ◌==◌, ◌^◌, ◌∷◌, ◌≡◌}
+use Rattle.wh_base.specs.Days.{is_day}
 use Rattle.wh_base.specs.Lists.{has_text}
 use Rattle.wh_base.specs.declared.queries.ColName.{ColName}
 use Rattle.wh_base.specs.declared.queries.NamePart.{NamePart}
@@ -23,11 +24,11 @@ use Rattle.wh_base.specs.declared.queries.RawTest.{RawTest}
 use Rattle.wh_base.specs.declared.queries.RawWhat.{RawWhat}
 use Rattle.wh_base.specs.declared.queries.RawWhat.TheVariants as what
 use Rattle.wh_base.specs.declared.values.Literal.{Literal}
-use Rattle.wh_base.specs.declared.values.Literal.TheVariants.{Number, Quoted}
+use Rattle.wh_base.specs.declared.values.Literal.TheVariants.{Dated, Number, Quoted}
 use Rattle.wh_lex.specs.Tokens.{is_name_byte}
-use Rattle.wh_lex.specs.declared.token.Token.{Token}
-use Rattle.wh_lex.specs.declared.token.TokenKind.{TokenKind}
-use Rattle.wh_lex.specs.declared.token.TokenKind.TheVariants as tokens
+use Rattle.wh_base.specs.declared.tokens.Token.{Token}
+use Rattle.wh_base.specs.declared.tokens.TokenKind.{TokenKind}
+use Rattle.wh_base.specs.declared.tokens.TokenKind.TheVariants as tokens
 use Rattle.def_grammar.specs.Forms.{text_tokens}
 use Rattle.def_grammar.specs.Query.{select}
 use Rattle.def_grammar.specs.Reading.{reserved, whole}
@@ -101,6 +102,7 @@ IsUnsigned (negsuc n) = ⊥
 abbrev pub IsLiteral : Literal → Type 0
 IsLiteral (Number z) = IsSigned z
 IsLiteral (Quoted text) = is_line text ≡ true
+IsLiteral (Dated n) = is_day n ≡ true
 
 abbrev pub IsNamePart : NamePart → Type 0
 IsNamePart (Plain n) = IsName n

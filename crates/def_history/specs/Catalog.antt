@@ -1,7 +1,7 @@
 -- The catalog: the base state with all its past, and the logs, views and dimensions over it.
 -- It has no view rows, no log rows and no marks of freshness: all of these are computed from the past of the base state.
-use Rattle.std.specs.Prelude.{Bool, List, Option, [], find, map, nat_le, ℕ, ◌++◌, ◌==◌, ◌∷◌}
-use Rattle.wh_base.specs.Lists.{option_case, same_text}
+use Rattle.std.specs.Prelude.{Bool, List, Option, [], filter, find, is_some, map, nat_le, ℕ, ◌++◌, ◌==◌, ◌∷◌}
+use Rattle.wh_base.specs.Lists.{option_case, option_nat_is, same_text}
 use Rattle.wh_base.specs.Tables.{Base, defs_of}
 use Rattle.wh_base.specs.declared.logs.LogFacts.{LogFacts}
 use Rattle.wh_base.specs.declared.tables.Change.{Change}
@@ -16,15 +16,22 @@ pub record Noted : Type 0 where
   pub table : ℕ
   pub change : Change
 
--- A partition that a commit touched by a change of its rows, or that an ADD, DROP or TRUNCATE touched (then `by_maintenance` holds).
--- The touch has the SCN, the partition's number and its interval at that moment.
+-- A partition that a commit touched by a change of its rows, or that an ADD, DROP, TRUNCATE, SPLIT or MERGE touched (then
+-- `by_maintenance` holds). The touch has the SCN, the partition's number and its interval at that moment.
 pub record Touched : Type 0 where
   pub table : ℕ
   pub touch : Touch
   pub by_maintenance : Bool
 
+-- A rowid that a SPLIT or MERGE gave to a row of the table with this number, with the SCN of the statement.
+pub record Renumbered : Type 0 where
+  pub scn : ℕ
+  pub table : ℕ
+  pub rowid : ℕ
+
 -- A materialized view: its definition; its point, which is the SCN of its last refresh, and none where it isn't built;
 -- whether it is registered, so that PURGE LOG waits for it; and whether its refresh at commit is suspended.
+-- A view over a view has the point that the view beneath had when its rows were made of it, and is never registered.
 pub record View : Type 0 where
   pub def : ViewDef
   pub point : Option ℕ
@@ -49,6 +56,8 @@ pub record Catalog : Type 0 where
   pub changes : List Noted
   -- all touches of partitions so far, in order
   pub touches : List Touched
+  -- all rowids that SPLIT and MERGE gave so far, in order
+  pub renumbered : List Renumbered
   -- the views that are there, in order of creation
   pub views : List View
   -- how many views were ever made
@@ -60,7 +69,7 @@ pub record Catalog : Type 0 where
 
 -- The catalog before the first command.
 abbrev pub empty_catalog : Catalog
-empty_catalog = record { scn = 0; oldest = 0; past = (0, []) ∷ []; changes = []; touches = []; views = []; views_made = 0; logs = []; dimensions = [] }
+empty_catalog = record { scn = 0; oldest = 0; past = (0, []) ∷ []; changes = []; touches = []; renumbered = []; views = []; views_made = 0; logs = []; dimensions = [] }
 
 -- The base state at an SCN: the latest that began at or before it.
 abbrev pub base_at : Catalog → ℕ → Base
@@ -85,6 +94,14 @@ view_named c name = find (λ v. same_text v.def.name name) c.views
 -- A view's number was never used before it and is never used after it, so it tells whether this is still the same view.
 abbrev pub view_numbered : Catalog → ℕ → Option View
 view_numbered c n = find (λ v. v.def.view == n) c.views
+
+-- The view is over another view.
+abbrev pub is_nested : View → Bool
+is_nested v = is_some v.def.beneath
+
+-- The views over the view with this number, in order of creation.
+abbrev pub views_over : Catalog → ℕ → List View
+views_over c n = filter (λ v. option_nat_is v.def.beneath n) c.views
 
 -- The log of the table with this number, where it has one.
 abbrev pub log_of : Catalog → ℕ → Option Log

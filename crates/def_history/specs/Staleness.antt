@@ -39,7 +39,7 @@ changes_after c v table = changes_of c table (point_of v) c.scn
 abbrev pub touches_after : Catalog → View → ℕ → List Touch
 touches_after c v table = touches_of c table (point_of v) c.scn
 
--- There was an ADD, DROP or TRUNCATE of a partition of the table after the view's point.
+-- There was an ADD, DROP, TRUNCATE, SPLIT or MERGE of a partition of the table after the view's point.
 abbrev pub maintained_after : Catalog → View → ℕ → Bool
 maintained_after c v table = maintained c table (point_of v) c.scn
 
@@ -80,7 +80,8 @@ form_of_view c v = form_restriction v.def (map (known c v) (table_defs v.def))
 -- ---- what is stale
 
 -- The keys at which the view may be stale: the union of the intervals of the partitions of its tracked table that were touched after its point,
--- as intervals that are disjoint, do not adjoin and ascend. Each partition counts with its interval at the moment of its touch.
+-- as intervals that are disjoint, do not adjoin and ascend. Each partition counts with its interval at the moment of its touch, and a SPLIT or
+-- MERGE touches both the partitions that end and the new ones.
 abbrev pub stale_intervals : Catalog → View → List Interval
 stale_intervals c v = option_case (tracked v.def) [] (λ t. union_of (map (λ touch. touch.interval) (touches_after c v t.0)))
 

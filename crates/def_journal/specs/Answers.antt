@@ -14,15 +14,15 @@ use Rattle.wh_base.specs.declared.statements.Level.{Level}
 use Rattle.wh_base.specs.declared.statements.Level.TheVariants.{Enforced, StaleTolerated, Trusted}
 use Rattle.wh_base.specs.declared.values.Value.{Value}
 use Rattle.wh_base.specs.declared.views.Back.{Back}
+use Rattle.wh_base.specs.declared.views.Class.{Class}
 use Rattle.wh_base.specs.declared.views.Plan.{Plan}
-use Rattle.def_choice.specs.Choice.{asked_scn, base_then, choice, plan_meaning, plan_reads, verdicts}
+use Rattle.def_choice.specs.Choice.{asked_scn, base_then, choice, class_is_built, plan_meaning, plan_reads, verdicts}
 use Rattle.def_history.specs.Catalog.{Catalog, base_at, defs_now}
 use Rattle.def_history.specs.Declared.{relations_hold}
 use Rattle.def_journal.specs.State.{Session, State, Step, image_of, refused, replied}
 use Rattle.def_meaning.specs.Meaning.{meaning}
 use Rattle.def_resolve.specs.Names.{table_refusal}
 use Rattle.def_resolve.specs.Resolve.{resolve}
-use Rattle.def_rewriting.specs.Matching.{query_tokens}
 use Rattle.wh_base.specs.declared.replies.Reply.TheVariants as reply
 use Rattle.wh_base.specs.declared.views.Plan.TheVariants as plan
 
@@ -70,20 +70,20 @@ plan_line c (plan.View p) = ViewAt p.class p.name p.point (back_names c p.back)
 
 -- ---- the replies
 
--- The plan that is chosen with the session's settings.
-abbrev pub chosen : Catalog → Session → Asked → StarQuery → Plan
-chosen c x a q = choice c q (query_tokens a.text) x.level x.rewrite
+-- The plan that is chosen with the session's settings, where the classes that pass the test `built` are built.
+abbrev pub chosen : (Class → Bool) → Catalog → Session → Asked → StarQuery → Plan
+chosen built c x a q = choice built c q a.tokens x.level x.rewrite
 
 -- ANSWER with the SCN asked for, the plan, the base rows read, and the rows.
-abbrev pub answer : Catalog → Session → Asked → StarQuery → Reply
-answer c x a q =
-    let p = chosen c x a q in
+abbrev pub answer : (Class → Bool) → Catalog → Session → Asked → StarQuery → Reply
+answer built c x a q =
+    let p = chosen built c x a q in
     reply.Answer (record { scn = asked_scn c q; plan = plan_line c p; read = plan_reads c q p; rows = plan_rows c q x.level p })
 
 -- REWRITE with the plan that would be chosen, and each view's class or first failing condition. No base row is read.
-abbrev pub explained : Catalog → Session → Asked → StarQuery → Reply
-explained c x a q =
-    reply.Rewrite (record { scn = asked_scn c q; plan = plan_line c (chosen c x a q); verdicts = verdicts c q (query_tokens a.text) x.level x.rewrite })
+abbrev pub explained : (Class → Bool) → Catalog → Session → Asked → StarQuery → Reply
+explained built c x a q =
+    reply.Rewrite (record { scn = asked_scn c q; plan = plan_line c (chosen built c x a q); verdicts = verdicts c q a.tokens x.level x.rewrite })
 
 -- The refusal of the query, having read nothing, or the reply that its star form gives.
 abbrev pub by_query : State → Catalog → Asked → (StarQuery → Reply) → Step
@@ -95,8 +95,8 @@ by_query s c a give = given (star_at c a.query)
 
 -- The step of a SELECT.
 abbrev pub select : State → Session → Asked → Step
-select s x a = let c = image_of s x in by_query s c a (answer c x a)
+select s x a = let c = image_of s x in by_query s c a (answer class_is_built c x a)
 
 -- The step of an EXPLAIN REWRITE.
 abbrev pub explain_query : State → Session → Asked → Step
-explain_query s x a = let c = image_of s x in by_query s c a (explained c x a)
+explain_query s x a = let c = image_of s x in by_query s c a (explained class_is_built c x a)

@@ -1,6 +1,6 @@
 -- A commit: the effect of its block, the partitions that it touches, and the refresh of the ON COMMIT views over it.
 use Rattle.std.specs.List.{enumerate_from, list_any}
-use Rattle.std.specs.Prelude.{Bool, Err, List, None, Ok, Option, Result, Some, [], cond, false, filter, flat_map, fold, is_some, length, map, not, option_to_list, true, ℕ, ◌&&◌, ◌++◌, ◌+◌, ◌==◌, ◌∷◌}
+use Rattle.std.specs.Prelude.{Bool, Err, List, None, Ok, Option, Result, Some, [], cond, false, filter, flat_map, fold, is_some, map, not, option_to_list, true, ℕ, ◌&&◌, ◌++◌, ◌+◌, ◌==◌, ◌∷◌}
 use Rattle.wh_base.specs.Lists.{has_number}
 use Rattle.wh_base.specs.Tables.{Base, Table, TableChange, mark_of, part_intervals}
 use Rattle.wh_base.specs.declared.replies.Refreshed.{Refreshed}
@@ -115,12 +115,13 @@ after_block c p =
     let d = with_base c p.base in
     record d { changes = c.changes ++ map (noted d.scn) p.changes; touches = c.touches ++ commit_touches d.scn p.base p.changes }
 
--- COMMITTED: SCN after the commit, ROWS the number of changes, READ the rows of its scans and of its refreshes.
+-- COMMITTED: SCN after the commit, ROWS the number of changes, where the two of a moved row count once, READ the rows of its scans and
+-- of its refreshes.
 abbrev pub committed : State → Progress → Step
 committed s p =
     let d = do_dues (after_block s.catalog p) p.changes in
     replied (with_catalog s d.catalog)
-    (Commit (record { scn = d.catalog.scn; rows = length p.changes; read = p.scanned + d.read; views = d.lines }))
+    (Commit (record { scn = d.catalog.scn; rows = p.rows; read = p.scanned + d.read; views = d.lines }))
 
 -- The block's first refusal, or the commit.
 abbrev pub commit_result : State → Result Progress Stopped → Step

@@ -1,5 +1,5 @@
 -- SHOW VIEW, SHOW LOG, EXPLAIN MVIEW and VALIDATE over an image.
-use Rattle.std.specs.Prelude.{Err, List, None, Ok, Option, Result, [], not, option_map, ℕ, ◌&&◌, ◌∷◌}
+use Rattle.std.specs.Prelude.{Err, List, None, Ok, Option, Result, Some, [], cond, not, option_map, ℕ, ◌&&◌, ◌∷◌}
 use Rattle.wh_base.specs.Lists.{first_of, first_some, is_empty, or_refuse, where_true, ◌>>=◌}
 use Rattle.wh_base.specs.Tables.{def_at}
 use Rattle.wh_base.specs.declared.replies.Reason.{Reason}
@@ -12,15 +12,17 @@ use Rattle.wh_base.specs.declared.views.Restriction.TheVariants.{F12, P2}
 use Rattle.def_dimensions.specs.Dimensions.{Dimension}
 use Rattle.def_dimensions.specs.Relations.{broken, validate_reads}
 use Rattle.def_effect.specs.Block.{the_table}
-use Rattle.def_history.specs.Catalog.{Catalog, Log, View, base_now, defs_now, dimension_named, log_of, view_named}
+use Rattle.def_history.specs.Catalog.{Catalog, Log, View, base_now, defs_now, dimension_named, is_nested, log_of, view_named}
 use Rattle.def_history.specs.Logs.{log_rows}
 use Rattle.def_history.specs.Staleness.{content_rows, facts_of, form_of_view, shown_intervals, view_state}
 use Rattle.def_journal.specs.State.{State, Step, refused, replied}
 use Rattle.def_restrictions.specs.Definition.{is_insert_only, selects_key}
-use Rattle.def_restrictions.specs.Restrictions.{check_p1, check_p2, is_aggregate, log_says, printed_with, restricted}
+use Rattle.def_restrictions.specs.Restrictions.{check_p1, check_p2, is_aggregate, log_says, restricted}
 use Rattle.wh_base.specs.declared.replies.Reply.TheVariants as reply
 use Rattle.wh_base.specs.declared.replies.Reason.TheVariants as reason
 use Rattle.wh_base.specs.declared.replies.Code.TheVariants as code
+use Rattle.wh_base.specs.declared.replies.Place.TheVariants as place
+use Rattle.wh_base.specs.declared.views.Requirement.TheVariants as requirement
 
 -- The view's point, state, marks, stale intervals and rows.
 abbrev pub show_view : Catalog → View → Reply
@@ -51,7 +53,7 @@ after_insert c v = option_map (refresh_reason c) (form_of_view c v)
 
 -- F13 where the view is insert-only; it prints alone, without a table.
 abbrev pub insert_only_reason : View → Option Reason
-insert_only_reason v = where_true (is_aggregate v.def && is_insert_only v.def) (reason.Refresh (printed_with (code.F 13) [] []))
+insert_only_reason v = where_true (is_aggregate v.def && is_insert_only v.def) (reason.Refresh (record { code = code.F13; place = place.View }))
 
 -- REFRESH_FAST_AFTER_ONETAB_DML: as after an insert, then F13.
 abbrev pub after_one_table : Catalog → View → Option Reason
@@ -72,16 +74,20 @@ by_parts c v = option_map (refresh_reason c) (first_some (check_p1 v.def ∷ che
 
 -- REWRITE_FULL_TEXT_MATCH: E9 where rewrite isn't enabled for the view.
 abbrev pub not_enabled : View → Option Reason
-not_enabled v = where_true (not v.def.rewrite) (reason.Rewrite 9)
+not_enabled v = where_true (not v.def.rewrite) (reason.Rewrite requirement.E9)
 
 -- REWRITE_PARTIAL_TEXT_MATCH and REWRITE_GENERAL: E9 again, then E7 where the definition has HAVING.
 abbrev pub rewritten : View → Option Reason
-rewritten v = first_some (not_enabled v ∷ where_true (not (is_empty v.def.query.having)) (reason.Rewrite 7) ∷ [])
+rewritten v = first_some (not_enabled v ∷ where_true (not (is_empty v.def.query.having)) (reason.Rewrite requirement.E7) ∷ [])
 
 -- REWRITE_PCT: as these, then P1, and P2 also where only the marker is selected.
 abbrev pub rewritten_by_parts : Catalog → View → Option Reason
 rewritten_by_parts c v =
     first_some (rewritten v ∷ option_map (refresh_reason c) (first_some (check_p1 v.def ∷ where_true (not (selects_key v.def)) P2 ∷ [])) ∷ [])
+
+-- A view over a view is neither refreshed by logs or partitions nor matched by its text.
+abbrev pub unless_nested : View → Option Reason → Option Reason
+unless_nested v r = cond (is_nested v) (Some reason.Nested) r
 
 -- The nine lines in order; a line without a reason says Y.
 abbrev pub explain_view : Catalog → View → Reply
@@ -90,12 +96,12 @@ explain_view c v =
       view = v.def.name;
       lines =
           None
-          ∷ after_insert c v
-          ∷ after_one_table c v
-          ∷ after_any c v
-          ∷ by_parts c v
-          ∷ not_enabled v
-          ∷ rewritten v
+          ∷ unless_nested v (after_insert c v)
+          ∷ unless_nested v (after_one_table c v)
+          ∷ unless_nested v (after_any c v)
+          ∷ unless_nested v (by_parts c v)
+          ∷ unless_nested v (not_enabled v)
+          ∷ unless_nested v (rewritten v)
           ∷ rewritten v
           ∷ rewritten_by_parts c v
           ∷ [];

@@ -1,8 +1,11 @@
 pub mod State
 pub mod Refreshing
+pub mod Listing
+pub mod Nesting
 pub mod Committing
 pub mod Answers
 pub mod Explaining
 pub mod Statements
 pub mod Steps
+pub mod Jobs
 pub mod Journal

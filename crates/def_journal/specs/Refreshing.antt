@@ -1,11 +1,11 @@
 -- A refresh: what is computed over its image, the rows that it reads, and its two parts, begin and install.
 use Rattle.std.specs.List.{list_any}
-use Rattle.std.specs.Prelude.{Bool, Err, List, None, Ok, Option, Result, Some, cond, false, filter, is_none, length, map, nat_eq, not, option_and_then, option_map, sum_by, true, unwrap_or, ℕ, ◌&&◌, ◌+◌, ◌==◌, ◌||◌}
-use Rattle.wh_base.specs.Lists.{change_where, distinct, has_number, is_empty, option_case, option_nat_same, unless, where_true}
+use Rattle.std.specs.Prelude.{Bool, Err, List, None, Ok, Option, Result, Some, [], cond, false, filter, find, is_none, length, map, nat_eq, not, option_and_then, option_map, sum_by, true, unwrap_or, ℕ, ◌&&◌, ◌+◌, ◌==◌, ◌||◌, ◌∷◌}
+use Rattle.wh_base.specs.Lists.{change_where, distinct, first_some, has_number, is_empty, option_case, option_nat_same, unless, where_true}
 use Rattle.wh_base.specs.Tables.{Base, mark_of, part_intervals, table_at}
 use Rattle.wh_base.specs.declared.queries.StarQuery.{StarQuery}
 use Rattle.wh_base.specs.declared.replies.Refusal.{Refusal}
-use Rattle.wh_base.specs.declared.replies.Refusal.TheVariants.{FastRefused, NoSuchObject, OnlyReading, Overtaken, PartitionRefused}
+use Rattle.wh_base.specs.declared.replies.Refusal.TheVariants.{BeneathUnbuilt, FastRefused, NoSuchObject, NotNested, OnlyReading, Overtaken, PartitionRefused}
 use Rattle.wh_base.specs.declared.replies.Restricted.{Restricted}
 use Rattle.wh_base.specs.declared.statements.Method.{Method}
 use Rattle.wh_base.specs.declared.statements.Method.TheVariants.{Complete, Fast, Force, Partition}
@@ -16,7 +16,7 @@ use Rattle.wh_base.specs.declared.values.Interval.{Interval}
 use Rattle.wh_base.specs.declared.views.Restriction.{Restriction}
 use Rattle.wh_base.specs.declared.views.ViewEntry.{ViewEntry}
 use Rattle.def_effect.specs.Block.{is_live}
-use Rattle.def_history.specs.Catalog.{Catalog, View, base_now, defs_now, view_named, view_numbered}
+use Rattle.def_history.specs.Catalog.{Catalog, View, base_at, base_now, defs_now, is_nested, view_named, view_numbered}
 use Rattle.def_history.specs.Staleness.{changes_after, facts_of, part_restriction, restriction, stale_intervals, touches_after}
 use Rattle.def_journal.specs.State.{Begun, Session, State, Step, only_reads, refused, replied, with_catalog, with_session}
 use Rattle.def_meaning.specs.Meaning.{stored}
@@ -123,11 +123,62 @@ computed c v Partition = unless (refusal_by c PartitionRefused (part_restriction
 computed c v Complete = Ok (computed_by c v Complete)
 computed c v Force = Ok (computed_by c v (cond (is_none (restriction c v)) Fast Complete))
 
+-- ---- views over views
+
+-- What a refresh of a list has computed of one of its views, as the image has it, and the point that the view gets by it.
+pub record Listed : Type 0 where
+  pub view : View
+  pub point : ℕ
+  pub computed : Computed
+
+-- The point that the view with this number has once what was computed of the list so far is installed: of the list, else of the image; none where it isn't built.
+abbrev pub point_beneath : Catalog → List Listed → ℕ → Option ℕ
+point_beneath c done n =
+    first_some (
+    option_map (λ l. l.point) (find (λ l. l.view.def.view == n) done)
+    ∷ option_and_then (λ v. v.point) (view_numbered c n)
+    ∷ [])
+
+-- The new point of a refreshed view: the SCN of the image; over a view, the point of the view beneath.
+abbrev pub new_point : Catalog → List Listed → View → ℕ
+new_point c done v = option_case v.def.beneath c.scn (λ n. unwrap_or (point_beneath c done n) 0)
+
+-- The letter F or P, which a view over a view doesn't have.
+abbrev pub asks_for_less : Option Method → Bool
+asks_for_less (Some Fast) = true
+asks_for_less (Some Partition) = true
+asks_for_less m = false
+
+-- The name of the view with this number.
+abbrev pub name_numbered : Catalog → ℕ → List ℕ
+name_numbered c n = option_case (view_numbered c n) [] (λ v. v.def.name)
+
+-- The letter is F or P, and then: the view beneath, which has this number, isn't built.
+abbrev pub nested_refusal : Catalog → List Listed → RefreshView → View → ℕ → Option Refusal
+nested_refusal c done r v n =
+    first_some (
+    where_true (asks_for_less r.method) (NotNested v.def.name)
+    ∷ where_true (is_none (point_beneath c done n)) (BeneathUnbuilt (name_numbered c n))
+    ∷ [])
+
+-- A view over a view is computed completely, of the rows of the view beneath; so it reads no base rows, and has what its definition stores at the point of that view.
+abbrev pub computed_over : Catalog → List Listed → View → Computed
+computed_over c done v = record { used = Complete; rows = stored v.def.query (base_at c (new_point c done v)); read = 0 }
+
+-- The method asked for, else the view's own.
+abbrev pub asked_method : RefreshView → View → Method
+asked_method r v = unwrap_or r.method v.def.method
+
+-- What a refresh computes of a view, where so much of its list was computed before; or its refusal.
+abbrev pub computed_for : Catalog → List Listed → RefreshView → View → Result Computed Refusal
+computed_for c done r v =
+    option_case v.def.beneath (computed c v (asked_method r v)) (λ n. unless (nested_refusal c done r v n) (computed_over c done v))
+
 -- ---- the view after it
 
--- An accepted refresh sets the view's point, registers the view and ends its suspension.
+-- An accepted refresh sets the view's point, registers the view and ends its suspension. A view over a view isn't registered.
 abbrev pub refreshed_to : ℕ → View → View
-refreshed_to scn v = record v { point = Some scn; registered = true; suspended = false }
+refreshed_to scn v = record v { point = Some scn; registered = not (is_nested v); suspended = false }
 
 -- The catalog with the view of this number changed.
 abbrev pub change_view : ℕ → (View → View) → Catalog → Catalog
@@ -149,15 +200,18 @@ ended s x = with_session s (record x { begun = None })
 abbrev pub overtaken : List ℕ → Begun → View → Option Refusal
 overtaken name b v = where_true (not (option_nat_same b.point v.point)) (Overtaken name b.point v.point)
 
--- The view as it is now takes the computed rows, unless it was overtaken. Its new point is the SCN of the image. HOLDS is the number of its entries.
+-- The view as it is now takes the computed rows, unless it was overtaken. Its new point is that of the image. HOLDS is the number of its entries.
 abbrev pub install_into : State → List ℕ → Begun → Computed → View → Step
 install_into s name b x now = installed (overtaken name b now)
   where
+    to : ℕ
+    to = new_point b.image [] now
+
     installed : Option Refusal → Step
     installed (Some code) = refused s x.read code
     installed None =
-        replied (with_catalog s (change_view now.def.view (refreshed_to b.image.scn) s.catalog))
-        (reply.Refresh (record { method = x.used; scn = b.image.scn; read = x.read; holds = length x.rows }))
+        replied (with_catalog s (change_view now.def.view (refreshed_to to) s.catalog))
+        (reply.Refresh (record { method = x.used; scn = to; read = x.read; holds = length x.rows }))
 
 -- Refused by its restriction, having read nothing; or because the view was dropped since the begin, having read what it computed from; or installed.
 abbrev pub install_computed : State → List ℕ → Begun → View → Result Computed Refusal → Step
@@ -165,17 +219,13 @@ install_computed s name b then (Err code) = refused s 0 code
 install_computed s name b then (Ok x) =
     option_case (view_numbered s.catalog then.def.view) (refused s x.read (NoSuchObject name)) (install_into s name b x)
 
--- The method asked for, else the view's own.
-abbrev pub asked_method : RefreshView → View → Method
-asked_method r v = unwrap_or r.method v.def.method
-
 -- The view as the image of the begin has it.
 abbrev pub begun_view : Begun → Option View
 begun_view b = option_and_then (view_numbered b.image) b.view
 
 -- Refused where the begin found no view, else computed over the image of the begin and installed.
 abbrev pub install_begun : State → RefreshView → Begun → Step
-install_begun s r b = option_case (begun_view b) (refused s 0 (NoSuchObject r.name)) (λ v. install_computed s r.name b v (computed b.image v (asked_method r v)))
+install_begun s r b = option_case (begun_view b) (refused s 0 (NoSuchObject r.name)) (λ v. install_computed s r.name b v (computed_for b.image [] r v))
 
 -- The install: in a READ ONLY transaction a refresh is refused before anything else.
 abbrev pub install_refresh : State → Session → RefreshView → Step

@@ -11,12 +11,14 @@ use Rattle.def_history.specs.Catalog.{Catalog, empty_catalog}
 use Rattle.wh_base.specs.declared.replies.Reply.TheVariants as reply
 
 -- A refresh that has begun: the view's number and point then, none where there was no such view or no point, and the image of the catalog.
+-- Of a list it is the first view; the numbers and points of all are those of the image.
 pub record Begun : Type 0 where
   pub view : Option ℕ
   pub point : Option ℕ
   pub image : Catalog
 
--- What a session keeps between its commands.
+-- What a session keeps between its commands, and a worker between its jobs. A worker has the number 64 and its own, and begins and
+-- installs refreshes alone.
 pub record Session : Type 0 where
   pub number : ℕ
   -- how far its answers may rely on what is declared and on what is stale

@@ -1,5 +1,5 @@
 -- The catalog statements: the catalog that each leaves, or its first refusal.
-use Rattle.std.specs.Prelude.{Bool, Err, List, None, Ok, Option, Result, [], cond, false, filter, filter_map, int_lt, length, map, max, nat_abs, nat_le, not, option_map, pos, suc, true, ℕ, ℤ, ◌++◌, ◌-◌, ◌==◌, ◌∷◌}
+use Rattle.std.specs.Prelude.{Bool, Err, List, None, Ok, Option, Result, Some, [], cond, false, filter, filter_map, int_lt, length, map, max, nat_abs, nat_le, not, option_map, pos, suc, true, ℕ, ℤ, ◌++◌, ◌-◌, ◌==◌, ◌∷◌}
 use Rattle.wh_base.specs.Lists.{change_where, first_some, has_text, option_case, same_text, unless, unless_then, where_true, ◌>>=◌}
 use Rattle.wh_base.specs.Tables.{column_number, def_at, with_table}
 use Rattle.wh_base.specs.declared.queries.StarQuery.{StarQuery}
@@ -8,8 +8,6 @@ use Rattle.wh_base.specs.declared.replies.Refusal.{Refusal}
 use Rattle.wh_base.specs.declared.replies.Refusal.TheVariants.{FastRefused, FutureScn, LogExists, NameTaken, TooManyObjects}
 use Rattle.wh_base.specs.declared.replies.Reply.TheVariants.{Purge}
 use Rattle.wh_base.specs.declared.statements.Altered.{Altered}
-use Rattle.wh_base.specs.declared.statements.Method.{Method}
-use Rattle.wh_base.specs.declared.statements.Method.TheVariants.{Fast}
 use Rattle.wh_base.specs.declared.statements.NewDimension.{NewDimension}
 use Rattle.wh_base.specs.declared.statements.NewLog.{NewLog}
 use Rattle.wh_base.specs.declared.statements.NewTable.{NewTable}
@@ -20,12 +18,13 @@ use Rattle.def_dimensions.specs.Dimensions.{dimension_refusal, new_dimension}
 use Rattle.def_effect.specs.Block.{repeated_column, the_table, unknown_column}
 use Rattle.def_effect.specs.Define.{define_table, max_objects}
 use Rattle.def_effect.specs.Partitions.{Altering, alter_table}
-use Rattle.def_history.specs.Catalog.{Catalog, Log, View, base_now, defs_now, log_of, names_taken}
+use Rattle.def_history.specs.Catalog.{Catalog, Log, Renumbered, View, base_now, defs_now, log_of, names_taken}
 use Rattle.def_history.specs.History.{kept_versions, versions_kept_above}
 use Rattle.def_history.specs.Logs.{log_rows, purged_log}
 use Rattle.def_history.specs.Staleness.{form_of_view}
 use Rattle.def_journal.specs.Committing.{part_touch}
 use Rattle.def_journal.specs.Explaining.{the_dimension, the_log, the_view}
+use Rattle.def_journal.specs.Nesting.{drop_refusal, is_fast, nested_query, unbuilt_beneath, view_beneath}
 use Rattle.def_journal.specs.Refreshing.{change_view, complete_reads}
 use Rattle.def_journal.specs.State.{State, Step, next_scn, refused, replied, with_base, with_catalog}
 use Rattle.def_resolve.specs.Resolve.{resolve}
@@ -47,17 +46,21 @@ create_table c s = do
   base ← define_table (names_taken c) (base_now c) s
   unread (with_base c base)
 
--- The table as the statement left it, at the next SCN, and the partition that it touched.
+-- The rowid as it is noted.
+abbrev pub renumbered : ℕ → ℕ → ℕ → Renumbered
+renumbered scn n rowid = record { scn = scn; table = n; rowid = rowid }
+
+-- The table as the statement left it, at the next SCN, the partitions that it touched, and the rowids that it gave.
 abbrev pub altered : Catalog → ℕ → Altering → Catalog
 altered c n a =
     let d = with_base c (with_table (base_now c) n a.table) in
-    record d { touches = c.touches ++ part_touch d.scn n true (a.part, a.interval) ∷ [] }
+    record d { touches = c.touches ++ map (part_touch d.scn n true) a.touched; renumbered = c.renumbered ++ map (renumbered d.scn n) a.renumbered }
 
--- ALTER TABLE: ADD, DROP or TRUNCATE of a partition.
+-- ALTER TABLE. It reads the rows that get a new rowid.
 abbrev pub alter : Catalog → Altered → Outcome
 alter c s = do
-  a ← alter_table (base_now c) s
-  unread (altered c a.0 a.1)
+  a ← alter_table (kept_versions c) (base_now c) s
+  Ok (altered c a.0 a.1, length a.1.renumbered)
 
 -- ---- logs
 
@@ -90,7 +93,7 @@ drop_log c name = do
 
 -- ---- views
 
--- The definition with a number that no view had, its tables in tree order and the text of its query.
+-- The definition with a number that no view had, its tables in tree order and the tokens of its query.
 abbrev pub view_def : Catalog → NewView → StarQuery → ViewDef
 view_def c s q =
     record {
@@ -98,20 +101,16 @@ view_def c s q =
       name = s.name;
       query = q;
       tables = map (def_at (defs_now c)) q.tables;
-      text = s.asked.text;
+      tokens = s.asked.tokens;
       method = s.method;
       on_commit = s.on_commit;
       rewrite = s.rewrite;
+      beneath = None;
     }
 
 -- With BUILD IMMEDIATE the view's point is the SCN of now and it is registered; with BUILD DEFERRED it has no point.
 abbrev pub new_view : Catalog → NewView → StarQuery → View
 new_view c s q = record { def = view_def c s q; point = where_true (not s.deferred) c.scn; registered = not s.deferred; suspended = false }
-
--- The method is FAST.
-abbrev pub is_fast : Method → Bool
-is_fast Fast = true
-is_fast m = false
 
 -- REFRESH FAST asks for F3 to F9.
 abbrev pub fast_form_refusal : Catalog → View → Option Refusal
@@ -125,12 +124,31 @@ with_view c v = record c { views = c.views ++ v ∷ []; views_made = suc c.views
 abbrev pub build_reads : Catalog → View → ℕ
 build_reads c v = option_case v.point 0 (λ _. complete_reads c v)
 
--- CREATE MATERIALIZED VIEW: refused where the name is taken, where there are too many views, by its query, or by REFRESH FAST.
+-- CREATE MATERIALIZED VIEW over tables: refused by its query, or by REFRESH FAST.
+abbrev pub create_over_tables : Catalog → NewView → Outcome
+create_over_tables c s = do
+  q ← resolve (defs_now c) s.asked.query
+  let v = new_view c s q in unless (fast_form_refusal c v) (with_view c v, build_reads c v)
+
+-- The definition over a view: the composed query over the tables of the view beneath, whose number it keeps.
+abbrev pub nested_def : Catalog → NewView → View → StarQuery → ViewDef
+nested_def c s v q = record (view_def c s q) { tables = v.def.tables; beneath = Some v.def.view }
+
+-- With BUILD IMMEDIATE the view over a view has the point of the view beneath. It is never registered.
+abbrev pub nested_view : Catalog → NewView → View → StarQuery → View
+nested_view c s v q = record { def = nested_def c s v q; point = cond s.deferred None v.point; registered = false; suspended = false }
+
+-- CREATE MATERIALIZED VIEW over a view: refused by its form, or because the view beneath isn't built. It reads no base rows.
+abbrev pub create_over_view : Catalog → NewView → View → Outcome
+create_over_view c s v = do
+  q ← nested_query s v
+  unless (unbuilt_beneath s v) (with_view c (nested_view c s v q), 0)
+
+-- CREATE MATERIALIZED VIEW: refused where the name is taken or where there are too many views, and then by what it is over.
 abbrev pub create_view : Catalog → NewView → Outcome
 create_view c s =
-    unless_then (first_some (where_true (has_text (names_taken c) s.name) (NameTaken s.name) ∷ where_true (nat_le max_objects (length c.views)) (TooManyObjects Views) ∷ [])) (do
-      q ← resolve (defs_now c) s.asked.query
-      let v = new_view c s q in unless (fast_form_refusal c v) (with_view c v, build_reads c v))
+    unless_then (first_some (where_true (has_text (names_taken c) s.name) (NameTaken s.name) ∷ where_true (nat_le max_objects (length c.views)) (TooManyObjects Views) ∷ []))
+    (option_case (view_beneath c s.asked.query) (create_over_tables c s) (create_over_view c s))
 
 -- The catalog with the view of this name changed.
 abbrev pub change_named_view : Catalog → List ℕ → (View → View) → Outcome
@@ -146,11 +164,15 @@ switched on v = record v { def = record v.def { rewrite = on } }
 abbrev pub unregistered : View → View
 unregistered v = record v { registered = false }
 
--- DROP MATERIALIZED VIEW.
+-- The catalog without this view.
+abbrev pub without_view : Catalog → View → Catalog
+without_view c v = record c { views = filter (λ w. not (w.def.view == v.def.view)) c.views }
+
+-- DROP MATERIALIZED VIEW: refused while a view stands over it.
 abbrev pub drop_view : Catalog → List ℕ → Outcome
 drop_view c name = do
   v ← the_view c name
-  unread (record c { views = filter (λ w. not (w.def.view == v.def.view)) c.views })
+  unless (drop_refusal c v) (without_view c v, 0)
 
 -- ---- dimensions
 

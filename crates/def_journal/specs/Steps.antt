@@ -24,7 +24,8 @@ use Rattle.def_history.specs.Catalog.{Catalog}
 use Rattle.def_journal.specs.Answers.{explain_query, select}
 use Rattle.def_journal.specs.Committing.{commit}
 use Rattle.def_journal.specs.Explaining.{explain_view, show_log, show_view, shown, the_dimension, the_log, the_view, validated}
-use Rattle.def_journal.specs.Refreshing.{begin_refresh, install_refresh}
+use Rattle.def_journal.specs.Listing.{install_named}
+use Rattle.def_journal.specs.Refreshing.{begin_refresh}
 use Rattle.def_journal.specs.State.{Session, State, Step, done_or_refused, image_of, only_reads, refused, replied, session_of, with_session}
 use Rattle.def_journal.specs.Statements.{Outcome, alter, change_named_view, create_dimension, create_log, create_table, create_view, drop_dimension, drop_log, drop_view, purge_log, purge_undo, purged_or_refused, switched, unregistered}
 use Rattle.wh_base.specs.declared.replies.Reply.TheVariants as reply
@@ -87,7 +88,7 @@ changing_step s x (about.Log l) = done_or_refused s (log_change s.catalog l)
 changing_step s x (about.View v) = done_or_refused s (view_change s.catalog v)
 changing_step s x (about.Dimension d) = done_or_refused s (dimension_change s.catalog d)
 changing_step s x (about.Purge p) = purged_or_refused s (purge_change s.catalog p)
-changing_step s x (about.Session setting) = session_done s (record x { reading = Some s.catalog })
+changing_step s x (about.Session ReadOnly) = session_done s (record x { reading = Some s.catalog })
 changing_step s x _ = record { state = s; reply = None }
 
 -- Between SET TRANSACTION and COMMIT every statement that isn't allowed is refused.
@@ -97,10 +98,22 @@ other_step s x statement =
 
 -- Part 1 of a refresh is its begin, part 2 its install. Every other command has one part.
 abbrev pub statement_step : State → Session → ℕ → Statement → Step
-statement_step s x part (Refresh r) = cond (part == 1) (record { state = begin_refresh s x r; reply = None }) (install_refresh s x r)
+statement_step s x part (Refresh r) = cond (part == 1) (record { state = begin_refresh s x r; reply = None }) (install_named s x r)
 statement_step s x part statement = other_step s x statement
 
--- The step of an entry: of this session, with this command, and of this part.
+-- SUBMIT itself, which a READ ONLY transaction refuses; then there is no job.
+abbrev pub submitted : State → Session → Step
+submitted s x = cond (only_reads x) (refused s 0 OnlyReading) (replied s reply.Submit)
+
+-- Part 1 of a SUBMIT is the session's own. Part 2 is the begin of the refresh and part 3 its install, both by a worker, which keeps what was begun as a session does, and never has
+-- a READ ONLY image open.
+abbrev pub submit_step : State → Session → ℕ → Statement → Step
+submit_step s x part (Refresh r) =
+    cond (part == 1) (submitted s x) (cond (part == 2) (record { state = begin_refresh s x r; reply = None }) (install_named s x r))
+submit_step s x part statement = submitted s x
+
+-- The step of an entry: of the session, or of the worker, that has this number; with this command, and of this part.
 abbrev pub step : State → ℕ → Command → ℕ → Step
 step s session (commands.Block b) part = commit s (session_of s session) b
 step s session (commands.Other statement) part = statement_step s (session_of s session) part statement
+step s session (commands.Submit statement) part = submit_step s (session_of s session) part statement

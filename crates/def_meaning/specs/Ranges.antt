@@ -1,6 +1,7 @@
 -- The query's interval of a column, the partitions that the base plan admits, and the rows that it reads.
+use Rattle.std.specs.List.{list_all}
 use Rattle.std.specs.Ordering.{bool_cmp, is_eq, is_ge, is_lt, ordering_then}
-use Rattle.std.specs.Prelude.{Bool, List, None, Option, Some, [], cond, false, filter, length, map, not, suc, sum_by, true, zero, ℕ, ◌&&◌, ◌++◌, ◌==◌, ◌||◌, ◌∷◌}
+use Rattle.std.specs.Prelude.{Bool, List, None, Option, Some, [], cond, false, filter, length, map, not, suc, sum_by, true, zero, ℕ, ◌&&◌, ◌++◌, ◌==◌, ◌||◌, ◌∷◌, ◌≡◌}
 use Rattle.std.specs.declared.cmp.Ordering.{Ordering}
 use Rattle.wh_base.specs.Columns.{has_column}
 use Rattle.wh_base.specs.Lists.{has_number, option_case}
@@ -46,6 +47,22 @@ equal_columns edges c = spread_times (length edges) edges (c ∷ [])
 -- a chain of these joins links the two columns, or they are one column
 abbrev pub are_equal : List Edge → ColRef → ColRef → Bool
 are_equal edges a b = has_column (equal_columns edges a) b
+
+-- ---- what is so of equal columns; it is proved in the laws of this crate
+
+-- the test says the same of both columns of each join
+abbrev pub IsKept : (ColRef → Bool) → List Edge → Type 0
+IsKept test [] = Unit {0}
+IsKept test (e ∷ es) = (test e.from ≡ test e.to) × IsKept test es
+
+-- an equality of columns by these joins: each column is equal to itself, what is equal is so both ways and over a third column,
+-- the two columns of a join are equal, and no others are than these make so: a test that the joins keep, equal columns keep
+pub record IsEquality (edges : List Edge) (equal : ColRef → ColRef → Bool) : Type 0 where
+  pub itself : (a : ColRef) → equal a a ≡ true
+  pub both_ways : (a b : ColRef) → equal a b ≡ true → equal b a ≡ true
+  pub over_third : (a b c : ColRef) → equal a b ≡ true → equal b c ≡ true → equal a c ≡ true
+  pub joins : list_all (λ e. equal e.from e.to) edges ≡ true
+  pub no_others : (test : ColRef → Bool) → IsKept test edges → (a b : ColRef) → equal a b ≡ true → test a ≡ test b
 
 -- ---- ranges of values
 

@@ -73,6 +73,7 @@ generated n =
           ∷ section 3 (ten_times (by_text (codes "SELECT S.PROD, COUNT(*) FROM SALES S GROUP BY S.PROD")))
           ∷ [];
       order = ten_times (1 ∷ 2 ∷ 2 ∷ 2 ∷ 3 ∷ []);
+      workers = 0;
     }
 
 -- ---- the summary

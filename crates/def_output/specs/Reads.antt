@@ -1,5 +1,6 @@
--- The base rows that the replies of a session say were read.
+-- The base rows that the replies of a session, or of a worker, say were read.
 use Rattle.std.specs.Prelude.{List, filter, sum_by, ℕ, ◌==◌}
+use Rattle.wh_base.specs.Parts.{bearer}
 use Rattle.wh_base.specs.declared.replies.Reply.{Reply}
 use Rattle.wh_base.specs.declared.replies.Reply.TheVariants.{Commit, Explain, Purge, Refuse, Validate}
 use Rattle.wh_base.specs.declared.statements.Entry.{Entry}
@@ -20,15 +21,17 @@ read_of (Explain r) = 0
 read_of (reply.Rewrite r) = 0
 read_of (Validate r) = r.read
 read_of (Refuse r) = r.read
+read_of (reply.RefreshList r) = r.read
+read_of reply.Submit = 0
 
 -- The sum of the READ numbers of these replies.
 abbrev pub reads_of : List Told → ℕ
 reads_of told = sum_by (λ t. read_of t.reply) told
 
--- The replies to the commands of a session.
+-- The replies to the commands of a session, without those of its jobs; and under 64 and a worker's number those of the jobs that it did.
 abbrev pub told_to : ℕ → List Told → List Told
-told_to session told = filter (λ t. t.id.session == session) told
+told_to session told = filter (λ t. bearer t.id.session t.id.worker == session) told
 
--- The sum of the READ numbers in the replies of a session, for a script under a journal.
+-- The sum of the READ numbers in the replies of a session, or of a worker, for a script under a journal.
 abbrev pub session_reads : Script → List Entry → ℕ → ℕ
 session_reads script journal session = reads_of (told_to session (replies_of (trace_of script journal)))

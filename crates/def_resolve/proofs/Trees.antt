@@ -20,15 +20,15 @@ use Rattle.def_resolve.specs.Resolve.{IsStar, first_table, grouping_holds, is_gr
 
 -- ---- tests
 
-both_left : (a b : Bool) → (a && b) ≡ true → a ≡ true
+pub both_left : (a b : Bool) → (a && b) ≡ true → a ≡ true
 both_left true b h = refl
 both_left false b h = cc
 
-both_right : (a b : Bool) → (a && b) ≡ true → b ≡ true
+pub both_right : (a b : Bool) → (a && b) ≡ true → b ≡ true
 both_right true b h = h
 both_right false b h = cc
 
-both : (a b : Bool) → a ≡ true → b ≡ true → (a && b) ≡ true
+pub both : (a b : Bool) → a ≡ true → b ≡ true → (a && b) ≡ true
 both true b h k = k
 both false b h k = cc
 
@@ -44,7 +44,7 @@ first_is {B = B} P h each (x ∷ xs) y e = by (first_is P h each xs y) (h x) ref
     by rest None f g = rest g
     by rest (Some z) f g = each x y (f ∙ g)
 
-where_is : {A : Type 0} (b : Bool) (x y : A) → where_true b x ≡ Some y → (b ≡ true) × (x ≡ y)
+pub where_is : {A : Type 0} (b : Bool) (x y : A) → where_true b x ≡ Some y → (b ≡ true) × (x ≡ y)
 where_is true x y e = (refl, cc)
 where_is false x y e = cc
 
@@ -64,7 +64,7 @@ branch_leads defs tree n e outside h =
     (ap not (ap (has_number tree.tables) at ∙ outside))
     (both_right (e.to.table == n) (is_key_column defs e.to) rest))
 
-directed_leads : (defs : List TableDef) (tree : Tree) (n : ℕ) (j e : Edge) → directed defs tree n j ≡ Some e → leads_to defs tree n e ≡ true
+pub directed_leads : (defs : List TableDef) (tree : Tree) (n : ℕ) (j e : Edge) → directed defs tree n j ≡ Some e → leads_to defs tree n e ≡ true
 directed_leads defs tree n j e h = by (leads_to defs tree n j) refl h
   where
     by : (b : Bool) → leads_to defs tree n j ≡ b → cond b (Some j) (where_true (leads_to defs tree n (turned j)) (turned j)) ≡ Some e → leads_to defs tree n e ≡ true
@@ -73,7 +73,7 @@ directed_leads defs tree n j e h = by (leads_to defs tree n j) refl h
         let said : (leads_to defs tree n (turned j) ≡ true) × (turned j ≡ e) = where_is (leads_to defs tree n (turned j)) (turned j) e g in
         subst (λ k. leads_to defs tree n k ≡ true) said.1 said.0
 
-branch_is : (defs : List TableDef) (joins : List Edge) (tree : Tree) (n : ℕ) (e : Edge) → branch_to defs joins tree n ≡ Some e → IsBranch defs tree.tables e
+pub branch_is : (defs : List TableDef) (joins : List Edge) (tree : Tree) (n : ℕ) (e : Edge) → branch_to defs joins tree n ≡ Some e → IsBranch defs tree.tables e
 branch_is defs joins tree n e h = by (has_number tree.tables n) refl h
   where
     by : (b : Bool) → has_number tree.tables n ≡ b → cond b None (first_of (directed defs tree n) joins) ≡ Some e → IsBranch defs tree.tables e
@@ -110,7 +110,7 @@ grow-is (suc n) defs joins from root tree is =
     (with_branch-is defs root tree (next_branch defs joins from tree) is
     (λ e h. first_is (IsBranch defs tree.tables) (branch_to defs joins tree) (λ m k b. branch_is defs joins tree m k b) from e h))
 
-tree_from-is : (defs : List TableDef) (joins : List Edge) (from : List ℕ) (root : ℕ) → IsTreeFrom defs root (tree_from defs joins from root).tables (tree_from defs joins from root).edges
+pub tree_from-is : (defs : List TableDef) (joins : List Edge) (from : List ℕ) (root : ℕ) → IsTreeFrom defs root (tree_from defs joins from root).tables (tree_from defs joins from root).edges
 tree_from-is defs joins from root = grow-is (length from) defs joins from root (record { tables = root ∷ []; edges = [] }) (refl, refl)
 
 -- ---- the tree of a query

@@ -18,28 +18,34 @@ use Rattle.wh_base.specs.declared.replies.Refusal.TheVariants.{ValueDoesNotFit}
 use Rattle.wh_base.specs.declared.tables.Kind.{Kind}
 use Rattle.wh_base.specs.declared.tables.TableDef.{TableDef}
 use Rattle.wh_base.specs.declared.values.Literal.{Literal}
-use Rattle.wh_base.specs.declared.values.Literal.TheVariants.{Number, Quoted}
+use Rattle.wh_base.specs.declared.values.Literal.TheVariants.{Dated, Number, Quoted}
 use Rattle.wh_base.specs.declared.values.Value.{Value}
-use Rattle.wh_base.specs.declared.values.Value.TheVariants.{Null, Num, Ratio, Text}
+use Rattle.wh_base.specs.declared.values.Value.TheVariants.{Day, Null, Num, Ratio, Text}
 use Rattle.wh_base.specs.declared.columns.Expr.TheVariants as expr
 use Rattle.wh_base.specs.declared.queries.RawCondition.TheVariants as raw
 use Rattle.wh_base.specs.declared.tables.Kind.TheVariants as kind
 
--- what may be compared: numbers with numbers, texts with texts, and NULL, which is of every kind, with both
+-- what may be compared: numbers with numbers, texts with texts, days with days, and NULL, which is of every kind, with all
 pub data Sort : Type 0 where
   IsNumber : Sort
   IsText : Sort
   IsAny : Sort
+  IsDay : Sort
 
 -- the two may be compared
 abbrev pub agrees : Sort → Sort → Bool
 agrees IsNumber IsText = false
 agrees IsText IsNumber = false
+agrees IsNumber IsDay = false
+agrees IsDay IsNumber = false
+agrees IsText IsDay = false
+agrees IsDay IsText = false
 agrees s t = true
 
 abbrev pub sort_of_kind : Kind → Sort
 sort_of_kind (kind.Number n) = IsNumber
 sort_of_kind (kind.Text n) = IsText
+sort_of_kind kind.Date = IsDay
 
 -- the kind of a column of a table; ROWID and PMARKER are numbers
 abbrev pub part_sort : TableDef → ColPart → Sort
@@ -56,6 +62,7 @@ value_sort Null = IsAny
 value_sort (Num n) = IsNumber
 value_sort (Text t) = IsText
 value_sort (Ratio a) = IsNumber
+value_sort (Day n) = IsDay
 
 abbrev pub literal_sort : Literal → Sort
 literal_sort l = value_sort (literal_value l)
@@ -64,6 +71,7 @@ literal_sort l = value_sort (literal_value l)
 abbrev pub is_too_long : Literal → Bool
 is_too_long (Number n) = nat_le (10 ^ 15) (nat_abs n)
 is_too_long (Quoted t) = nat_lt 64 (length t)
+is_too_long (Dated n) = false
 
 -- a column, and not ROWID or PMARKER
 abbrev pub is_plain : ColPart → Bool

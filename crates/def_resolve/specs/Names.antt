@@ -1,5 +1,5 @@
 -- What the columns of a query name, and the refusals MV-02 and MV-03 of a query.
-use Rattle.std.specs.Prelude.{Bool, List, None, Option, Some, [], codes, cond, false, filter_map, flat_map, length, nat_lt, negsuc, option_map, pos, position, suc, true, unwrap_or, zero, ℕ, ℤ, ◌++◌, ◌∷◌}
+use Rattle.std.specs.Prelude.{Bool, List, None, Option, Some, [], codes, cond, false, filter_map, flat_map, is_none, length, nat_lt, negsuc, option_and_then, option_map, pos, position, suc, true, unwrap_or, zero, ℕ, ℤ, ◌&&◌, ◌++◌, ◌∷◌}
 use Rattle.wh_base.specs.Lists.{first_of, first_some, option_case, same_text, where_true}
 use Rattle.wh_base.specs.Tables.{column_number, def_at, table_number}
 use Rattle.wh_base.specs.Values.{int_text}
@@ -59,6 +59,10 @@ abbrev pub the_only : {A : Type 0} → List A → Option A
 the_only [] = None
 the_only (x ∷ []) = Some x
 the_only (x ∷ y ∷ ys) = None
+
+-- the name in FROM of a query over one table or view, where it has no alias
+abbrev pub lone_name : RawQuery → Option (List ℕ)
+lone_name q = option_and_then (λ t. where_true (is_none t.alias && is_none t.on) t.table) (the_only q.tables)
 
 -- the column that a name stands for; None where it is unknown or in two tables
 abbrev pub column_of : List Source → ColName → Option ColRef

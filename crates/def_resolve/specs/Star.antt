@@ -1,5 +1,7 @@
 -- The tree that the joins of a query form: its root, its tables in tree order, and the join that reaches each.
+use Rattle.std.specs.List.{list_all, list_any}
 use Rattle.std.specs.Prelude.{Bool, List, None, Option, Some, [], cond, false, is_some, length, map, nat_eq, not, suc, true, zero, ℕ, ◌&&◌, ◌++◌, ◌+◌, ◌==◌, ◌||◌, ◌∷◌, ◌≡◌}
+use Rattle.wh_base.specs.Columns.{same_column}
 use Rattle.wh_base.specs.Lists.{first_of, has_number, repeated, where_true}
 use Rattle.wh_base.specs.Tables.{def_at, is_key}
 use Rattle.wh_base.specs.declared.columns.ColPart.{ColPart}
@@ -83,3 +85,32 @@ leads_outwards defs listed (e ∷ es) =
 -- a tree with this root: its tables are the root and those that its joins reach, and the joins lead outwards from the root
 abbrev pub IsTreeFrom : List TableDef → ℕ → List ℕ → List Edge → Type 0
 IsTreeFrom defs root tables edges = (tables ≡ root ∷ map (λ e. e.to.table) edges) × (leads_outwards defs (root ∷ []) edges ≡ true)
+
+-- the edge is one of the joins, as it is written or the other way round
+abbrev pub same_join : Edge → Edge → Bool
+same_join d e = same_column d.from e.from && same_column d.to e.to
+
+abbrev pub is_one_of : List Edge → Edge → Bool
+is_one_of joins e = list_any (λ j. same_join j e || same_join (turned j) e) joins
+
+-- these edges, each one of the joins, make a tree with this root over the tables of FROM, all of them and no others
+pub record IsTreeOver (defs : List TableDef) (joins : List Edge) (from : List ℕ) (root : ℕ) (edges : List Edge) : Type 0 where
+  pub outwards : leads_outwards defs (root ∷ []) edges ≡ true
+  pub by_joins : list_all (is_one_of joins) edges ≡ true
+  pub all_tables : (n : ℕ) → has_number (root ∷ map (λ e. e.to.table) edges) n ≡ has_number from n
+
+-- what is found for a root is such a tree, and none is found where there is no such tree with this root
+pub record IsSpanning (defs : List TableDef) (joins : List Edge) (from : List ℕ) (root : ℕ) (found : Option Tree) : Type 0 where
+  pub some : (tree : Tree) → found ≡ Some tree → (tree.tables ≡ root ∷ map (λ e. e.to.table) tree.edges) × IsTreeOver defs joins from root tree.edges
+  pub none : found ≡ None → (edges : List Edge) → IsTreeOver defs joins from root edges → ⊥
+
+-- what is found for a query is the tree of some root, and none is found exactly where a table stands twice, or there are more or
+-- fewer joins than tables but one, or no root has such a tree
+pub record IsStarOf (defs : List TableDef) (joins : List Edge) (from : List ℕ) (found : Option Tree) : Type 0 where
+  pub some :
+      (tree : Tree) → found ≡ Some tree
+      → (root : ℕ) × ((tree.tables ≡ root ∷ map (λ e. e.to.table) tree.edges) × IsTreeOver defs joins from root tree.edges)
+  pub once : (tree : Tree) → found ≡ Some tree → (is_repeated_number from ≡ false) × ((length joins + 1 == length from) ≡ true)
+  pub none :
+      found ≡ None → is_repeated_number from ≡ false → (length joins + 1 == length from) ≡ true
+      → (root : ℕ) (edges : List Edge) → IsTreeOver defs joins from root edges → ⊥

@@ -6,7 +6,6 @@ use Rattle.wh_base.specs.Lists.{count_from, first_of, first_some, has_number, is
 use Rattle.wh_base.specs.Tables.{column_name, def_at}
 use Rattle.wh_base.specs.declared.columns.ColPart.TheVariants.{RowId}
 use Rattle.wh_base.specs.declared.logs.LogFacts.{LogFacts}
-use Rattle.wh_base.specs.declared.replies.Code.{Code}
 use Rattle.wh_base.specs.declared.replies.Restricted.{Restricted}
 use Rattle.wh_base.specs.declared.tables.TableDef.{TableDef}
 use Rattle.wh_base.specs.declared.views.RefreshFacts.{RefreshFacts}
@@ -18,6 +17,7 @@ use Rattle.wh_base.specs.declared.views.ViewState.{ViewState}
 use Rattle.wh_base.specs.declared.views.ViewState.TheVariants.{Fresh, Partly, Stale, Unbuilt}
 use Rattle.def_restrictions.specs.Definition.{has_average_alone, is_insert_only, is_tracked, selects_column, selects_key, selects_mark, table_defs, tracked, used_places}
 use Rattle.wh_base.specs.declared.replies.Code.TheVariants as code
+use Rattle.wh_base.specs.declared.replies.Place.TheVariants as place
 
 -- what is known of a table of the view: its log, where it has one, and whether an insert, a delete or update (a removal), or
 -- partition maintenance came after the view's point
@@ -181,25 +181,21 @@ state_by f = cond (is_none f.point) Unbuilt (cond (is_fresh f) Fresh (cond (is_n
 
 -- ---- how a restriction prints
 
--- a code with the names that it prints
-abbrev pub printed_with : Code → List ℕ → List ℕ → Restricted
-printed_with code table column = record { code = code; table = table; column = column }
-
 -- F1, F2, F7, F9, P1 and P2 print no table; F5 prints table and column; the others print the table
 abbrev pub restricted : List TableDef → Restriction → Restricted
-restricted defs F1 = printed_with (code.F 1) [] []
-restricted defs F2 = printed_with (code.F 2) [] []
-restricted defs (F3 t) = printed_with (code.F 3) (def_at defs t).name []
-restricted defs (F4 t) = printed_with (code.F 4) (def_at defs t).name []
-restricted defs (F5 t c) = printed_with (code.F 5) (def_at defs t).name (column_name (def_at defs t) c)
-restricted defs (F6 t) = printed_with (code.F 6) (def_at defs t).name []
-restricted defs F7 = printed_with (code.F 7) [] []
-restricted defs (F8 t) = printed_with (code.F 8) (def_at defs t).name []
-restricted defs F9 = printed_with (code.F 9) [] []
-restricted defs (F10 t) = printed_with (code.F 10) (def_at defs t).name []
-restricted defs (F11 t) = printed_with (code.F 11) (def_at defs t).name []
-restricted defs (F12 t) = printed_with (code.F 12) (def_at defs t).name []
-restricted defs (F13 t) = printed_with (code.F 13) (def_at defs t).name []
-restricted defs P1 = printed_with (code.P 1) [] []
-restricted defs P2 = printed_with (code.P 2) [] []
-restricted defs (P3 t) = printed_with (code.P 3) (def_at defs t).name []
+restricted defs F1 = record { code = code.F1; place = place.View }
+restricted defs F2 = record { code = code.F2; place = place.View }
+restricted defs (F3 t) = record { code = code.F3; place = place.Table (def_at defs t).name }
+restricted defs (F4 t) = record { code = code.F4; place = place.Table (def_at defs t).name }
+restricted defs (F5 t c) = record { code = code.F5; place = place.Column (def_at defs t).name (column_name (def_at defs t) c) }
+restricted defs (F6 t) = record { code = code.F6; place = place.Table (def_at defs t).name }
+restricted defs F7 = record { code = code.F7; place = place.View }
+restricted defs (F8 t) = record { code = code.F8; place = place.Table (def_at defs t).name }
+restricted defs F9 = record { code = code.F9; place = place.View }
+restricted defs (F10 t) = record { code = code.F10; place = place.Table (def_at defs t).name }
+restricted defs (F11 t) = record { code = code.F11; place = place.Table (def_at defs t).name }
+restricted defs (F12 t) = record { code = code.F12; place = place.Table (def_at defs t).name }
+restricted defs (F13 t) = record { code = code.F13; place = place.Table (def_at defs t).name }
+restricted defs P1 = record { code = code.P1; place = place.View }
+restricted defs P2 = record { code = code.P2; place = place.View }
+restricted defs (P3 t) = record { code = code.P3; place = place.Table (def_at defs t).name }

@@ -18,6 +18,8 @@ use Rattle.wh_base.specs.declared.tables.TableDef.{TableDef}
 use Rattle.def_meaning.specs.Ranges.{are_equal, equal_columns}
 use Rattle.def_restrictions.specs.Definition.{condition_column}
 use Rattle.def_rewriting.specs.Implied.{implies, is_not_null_test, same_test}
+use Rattle.wh_base.specs.declared.views.Requirement.{Requirement}
+use Rattle.wh_base.specs.declared.views.Requirement.TheVariants as requirement
 
 -- RELY foreign keys and dimensions may be relied on: under TRUSTED and STALE_TOLERATED.
 abbrev pub may_rely : Level → Bool
@@ -91,16 +93,16 @@ own_conditions q v =
 
 -- ---- the first that fails
 
--- The number of the condition, where it doesn't hold.
-abbrev pub failing : ℕ → Bool → Option ℕ
-failing n holds = where_true (not holds) n
+-- The requirement, where it isn't met.
+abbrev pub failing : Requirement → Bool → Option Requirement
+failing e holds = where_true (not holds) e
 
--- The number of the first of E1, E2, E4 and E5 that fails, or none.
-abbrev pub compatible : List TableDef → Level → StarQuery → StarQuery → Option ℕ
+-- The first of E1, E2, E4 and E5 that fails, or none.
+abbrev pub compatible : List TableDef → Level → StarQuery → StarQuery → Option Requirement
 compatible defs level q v =
     first_some (
-    failing 1 (same_root q v)
-    ∷ failing 2 (same_joins q v)
-    ∷ failing 4 (extra_tables_hold defs level q v)
-    ∷ failing 5 (conditions_implied defs q v)
+    failing requirement.E1 (same_root q v)
+    ∷ failing requirement.E2 (same_joins q v)
+    ∷ failing requirement.E4 (extra_tables_hold defs level q v)
+    ∷ failing requirement.E5 (conditions_implied defs q v)
     ∷ [])

@@ -1,11 +1,9 @@
 -- When the text of a query is the text of a view's definition, token by token.
-use Rattle.std.specs.Prelude.{Bool, Err, List, None, Ok, Option, Result, Some, [], codes, cond, false, not, take_while, true, unwrap_or, ℕ, ◌&&◌, ◌∷◌}
+use Rattle.std.specs.Prelude.{Bool, List, [], codes, cond, false, not, take_while, true, ℕ, ◌&&◌, ◌∷◌}
 use Rattle.wh_base.specs.Lists.{same_text}
-use Rattle.wh_lex.specs.Lex.{tokens_of}
-use Rattle.wh_lex.specs.declared.lex.LexFault.{LexFault}
-use Rattle.wh_lex.specs.declared.token.Token.{Token}
-use Rattle.wh_lex.specs.declared.token.TokenKind.{TokenKind}
-use Rattle.wh_lex.specs.declared.token.TokenKind.TheVariants as tokens
+use Rattle.wh_base.specs.declared.tokens.Token.{Token}
+use Rattle.wh_base.specs.declared.tokens.TokenKind.{TokenKind}
+use Rattle.wh_base.specs.declared.tokens.TokenKind.TheVariants as tokens
 
 -- Two tokens are both names, both numbers, both quoted texts or both marks.
 abbrev pub same_kind : TokenKind → TokenKind → Bool
@@ -51,15 +49,3 @@ match_text query view =
     let q = before_order query in
     let v = before_order view in
     cond (same_tokens q v) FullText (cond (same_tokens (from_on q) (from_on v)) PartialText NoText)
-
--- The tokens of a text, and none where it can't be read as tokens.
-abbrev pub read_tokens : List ℕ → Option (List Token)
-read_tokens text = of_result (tokens_of text)
-  where
-    of_result : Result (List Token) LexFault → Option (List Token)
-    of_result (Ok ts) = Some ts
-    of_result (Err e) = None
-
--- The tokens of a query's text, which the grammar has read before.
-abbrev pub query_tokens : List ℕ → List Token
-query_tokens text = unwrap_or (read_tokens text) []

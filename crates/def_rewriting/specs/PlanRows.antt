@@ -15,13 +15,11 @@ use Rattle.wh_base.specs.declared.tables.TableDef.{TableDef}
 use Rattle.wh_base.specs.declared.values.Value.{Value}
 use Rattle.wh_base.specs.declared.values.Value.TheVariants.{Null}
 use Rattle.wh_base.specs.declared.views.Back.{Back}
-use Rattle.wh_base.specs.declared.views.Class.{Class}
-use Rattle.wh_base.specs.declared.views.Class.TheVariants.{Full, General, JoinBack, Partial}
 use Rattle.wh_base.specs.declared.views.ViewEntry.{ViewEntry}
 use Rattle.def_meaning.specs.Joined.{conditions_true, part_value, rows_at}
-use Rattle.def_meaning.specs.Meaning.{Grouped, agg_value, entries, groups, key_value, plain_item}
+use Rattle.def_meaning.specs.Meaning.{Grouped, agg_value, groups, key_value, plain_item}
 use Rattle.def_rewriting.specs.Compatible.{linked, own_conditions}
-use Rattle.def_rewriting.specs.Reaching.{Place, back_column, layout, place_in, view_layout}
+use Rattle.def_rewriting.specs.Reaching.{Place, back_column, place_in, view_layout}
 use Rattle.def_rewriting.specs.Rollup.{origin, rolled}
 use Rattle.wh_base.specs.declared.queries.Item.TheVariants as item
 
@@ -105,10 +103,3 @@ entry_item defs q v row (item.Agg a) = option_case (origin defs (linked q v) v a
 -- One row for each entry of the view.
 abbrev pub text_rows : List TableDef → StarQuery → StarQuery → List ViewEntry → List (List Value)
 text_rows defs q v entries = map (λ e. map (entry_item defs q v e.row) q.items) entries
-
--- The rows of a plan of this class, not yet in the order of the answer.
-abbrev pub class_rows : List TableDef → Base → StarQuery → StarQuery → Class → List Back → List ViewEntry → List (List Value)
-class_rows defs base q v Full backs entries = text_rows defs q v entries
-class_rows defs base q v Partial backs entries = text_rows defs q v entries
-class_rows defs base q v General backs entries = general_rows defs q v (layout q v backs) (extended_rows base v backs entries)
-class_rows defs base q v JoinBack backs entries = general_rows defs q v (layout q v backs) (extended_rows base v backs entries)

@@ -2,7 +2,7 @@
 use Rattle.std.specs.List.{list_all, list_any}
 use Rattle.std.specs.Prelude.{Bool, List, None, Option, Some, [], cond, false, filter, find, flat_map, fold, is_some, length, map, nat_eq, not, option_and_then, option_map, position, true, ℕ, ◌&&◌, ◌++◌, ◌==◌, ◌∷◌}
 use Rattle.wh_base.specs.Columns.{agg_columns, has_column}
-use Rattle.wh_base.specs.Lists.{count_from, distinct, first_of, first_some, is_empty, option_case}
+use Rattle.wh_base.specs.Lists.{count_from, distinct, first_of, first_some, is_empty, option_case, where_true}
 use Rattle.wh_base.specs.Tables.{def_at, never_null}
 use Rattle.wh_base.specs.declared.columns.ColPart.{ColPart}
 use Rattle.wh_base.specs.declared.columns.ColPart.TheVariants.{Col, Mark, RowId}
@@ -20,6 +20,7 @@ use Rattle.def_meaning.specs.Ranges.{equal_columns}
 use Rattle.def_restrictions.specs.Definition.{condition_column, selects_column}
 use Rattle.def_rewriting.specs.Compatible.{is_table_of, join_into, may_rely, own_conditions}
 use Rattle.wh_base.specs.declared.queries.Item.TheVariants as item
+use Rattle.wh_base.specs.declared.views.Requirement.TheVariants as requirement
 
 -- ---- the layout of an extended row: the view's row, followed by the columns that each table joined back gains
 
@@ -195,9 +196,9 @@ walk_table defs dims level q v w n =
 abbrev pub walk : List TableDef → List Dimension → Level → StarQuery → StarQuery → Walk
 walk defs dims level q v = fold (walk_table defs dims level q v) (record { back = []; fails_e3 = false; fails_e6 = false }) q.tables
 
--- The number of the first of E3 and E6 that fails, or 0 and the tables joined back.
+-- The first of E3 and E6 that fails, where one does, and the tables joined back.
 abbrev pub reach_of : Walk → Reach
-reach_of w = record { failed = cond w.fails_e3 3 (cond w.fails_e6 6 0); back = w.back }
+reach_of w = record { failed = cond w.fails_e3 (Some requirement.E3) (where_true w.fails_e6 requirement.E6); back = w.back }
 
 -- E3 and E6 of a query and a view, with the tables joined back.
 abbrev pub reach : List TableDef → List Dimension → Level → StarQuery → StarQuery → Reach

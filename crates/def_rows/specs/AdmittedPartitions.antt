@@ -1,9 +1,9 @@
 use Rattle.std.specs.Prelude.{Ok, [], codes, refl, ◌∷◌, ◌≡◌}
-use Rattle.def_rows.specs.Lines.{Ordering, chars, digits, front_of, is_utf8, lines_text, output, tokens_of, utf8_valid_len}
+use Rattle.def_rows.specs.Lines.{Ordering, Two, chars, digits, front_of, is_utf8, lines_text, output, tokens_of, utf8_valid_len}
 
 -- A query reads the partitions alone that its conditions admit. The last partition of a table can't be dropped.
 pub admitted_partitions :
-    output Ordering (lines_text (
+    output (Ordering Two) (lines_text (
     codes "@setup"
     ∷ codes "CREATE TABLE S (K NUMBER, A NUMBER) PARTITION BY RANGE (K) (PARTITION P1 VALUES LESS THAN (10), PARTITION P2 VALUES LESS THAN (20));"
     ∷ codes "INSERT INTO S VALUES (5,1),(15,2);"
@@ -14,7 +14,8 @@ pub admitted_partitions :
     ∷ codes "@end"
     ∷ []))
     ≡ Ok (lines_text (
-    codes "0.1 DONE SCN 1 READ 0"
+    codes "mviewdb 2"
+    ∷ codes "0.1 DONE SCN 1 READ 0"
     ∷ codes "0.2 COMMITTED SCN 2 ROWS 2 READ 0 VIEWS 0"
     ∷ codes "0.3 ANSWER SCN 2 PLAN BASE READ 1 ROWS 1"
     ∷ codes "1"

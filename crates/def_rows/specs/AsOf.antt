@@ -1,9 +1,9 @@
 use Rattle.std.specs.Prelude.{Ok, [], codes, refl, ◌∷◌, ◌≡◌}
-use Rattle.def_rows.specs.Lines.{Ordering, chars, digits, front_of, is_utf8, lines_text, output, tokens_of, utf8_valid_len}
+use Rattle.def_rows.specs.Lines.{Ordering, Two, chars, digits, front_of, is_utf8, lines_text, output, tokens_of, utf8_valid_len}
 
 -- AS OF SCN answers from the rows of that SCN; it is refused above the SCN of now, and below the oldest one.
 pub as_of_and_purge_undo :
-    output Ordering (lines_text (
+    output (Ordering Two) (lines_text (
     codes "@setup"
     ∷ codes "CREATE TABLE T (G VARCHAR2(4), A NUMBER);"
     ∷ codes "INSERT INTO T VALUES ('P',1);"
@@ -15,7 +15,8 @@ pub as_of_and_purge_undo :
     ∷ codes "@end"
     ∷ []))
     ≡ Ok (lines_text (
-    codes "0.1 DONE SCN 1 READ 0"
+    codes "mviewdb 2"
+    ∷ codes "0.1 DONE SCN 1 READ 0"
     ∷ codes "0.2 COMMITTED SCN 2 ROWS 1 READ 0 VIEWS 0"
     ∷ codes "0.3 COMMITTED SCN 3 ROWS 1 READ 0 VIEWS 0"
     ∷ codes "0.4 ANSWER SCN 2 PLAN BASE READ 1 ROWS 1"
@@ -30,7 +31,7 @@ as_of_and_purge_undo = refl
 
 -- The partitions are those of that SCN, and a table that wasn't there then is refused.
 pub partitions_of_that_scn :
-    output Ordering (lines_text (
+    output (Ordering Two) (lines_text (
     codes "@setup"
     ∷ codes "CREATE TABLE S (K NUMBER, A NUMBER) PARTITION BY RANGE (K) (PARTITION P1 VALUES LESS THAN (10), PARTITION P2 VALUES LESS THAN (20));"
     ∷ codes "INSERT INTO S VALUES (5,1),(15,2);"
@@ -41,7 +42,8 @@ pub partitions_of_that_scn :
     ∷ codes "@end"
     ∷ []))
     ≡ Ok (lines_text (
-    codes "0.1 DONE SCN 1 READ 0"
+    codes "mviewdb 2"
+    ∷ codes "0.1 DONE SCN 1 READ 0"
     ∷ codes "0.2 COMMITTED SCN 2 ROWS 2 READ 0 VIEWS 0"
     ∷ codes "0.3 DONE SCN 2 READ 2"
     ∷ codes "0.4 DONE SCN 3 READ 0"

@@ -1,9 +1,9 @@
 use Rattle.std.specs.Prelude.{Ok, [], codes, refl, ◌∷◌, ◌≡◌}
-use Rattle.def_rows.specs.Lines.{Ordering, chars, digits, front_of, is_utf8, lines_text, output, tokens_of, utf8_valid_len}
+use Rattle.def_rows.specs.Lines.{Ordering, Two, chars, digits, front_of, is_utf8, lines_text, output, tokens_of, utf8_valid_len}
 
 -- AVG prints its sum and its count without reducing, and NULL comes first in descending order.
 pub average_having_and_descending_order :
-    output Ordering (lines_text (
+    output (Ordering Two) (lines_text (
     codes "@setup"
     ∷ codes "CREATE TABLE T (G VARCHAR2(4), A NUMBER);"
     ∷ codes "INSERT INTO T VALUES ('P',10),('P',5),('Q',NULL);"
@@ -11,7 +11,8 @@ pub average_having_and_descending_order :
     ∷ codes "@end"
     ∷ []))
     ≡ Ok (lines_text (
-    codes "0.1 DONE SCN 1 READ 0"
+    codes "mviewdb 2"
+    ∷ codes "0.1 DONE SCN 1 READ 0"
     ∷ codes "0.2 COMMITTED SCN 2 ROWS 3 READ 0 VIEWS 0"
     ∷ codes "0.3 ANSWER SCN 2 PLAN BASE READ 3 ROWS 2"
     ∷ codes "Q||"

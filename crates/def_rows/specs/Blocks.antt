@@ -1,10 +1,10 @@
 use Rattle.std.specs.Prelude.{Ok, [], codes, refl, ◌∷◌, ◌≡◌}
-use Rattle.def_rows.specs.Lines.{Ordering, chars, digits, front_of, is_utf8, lines_text, output, tokens_of, utf8_valid_len}
+use Rattle.def_rows.specs.Lines.{Ordering, Two, chars, digits, front_of, is_utf8, lines_text, output, tokens_of, utf8_valid_len}
 
 -- UPDATE and DELETE read all live rows of their table, also where they change none. An empty block is a commit.
 -- A query in a block is refused when the block runs.
 pub update_delete_and_empty_block :
-    output Ordering (lines_text (
+    output (Ordering Two) (lines_text (
     codes "@setup"
     ∷ codes "CREATE TABLE T (G VARCHAR2(4), A NUMBER);"
     ∷ codes "INSERT INTO T VALUES ('P',1),('Q',NULL);"
@@ -15,7 +15,8 @@ pub update_delete_and_empty_block :
     ∷ codes "@end"
     ∷ []))
     ≡ Ok (lines_text (
-    codes "0.1 DONE SCN 1 READ 0"
+    codes "mviewdb 2"
+    ∷ codes "0.1 DONE SCN 1 READ 0"
     ∷ codes "0.2 COMMITTED SCN 2 ROWS 2 READ 0 VIEWS 0"
     ∷ codes "0.3 COMMITTED SCN 3 ROWS 2 READ 2 VIEWS 0"
     ∷ codes "0.4 COMMITTED SCN 4 ROWS 0 READ 2 VIEWS 0"

@@ -1,10 +1,10 @@
 use Rattle.std.specs.Prelude.{Ok, [], codes, refl, ◌∷◌, ◌≡◌}
-use Rattle.def_rows.specs.Lines.{Ordering, chars, digits, front_of, is_utf8, lines_text, output, tokens_of, utf8_valid_len}
+use Rattle.def_rows.specs.Lines.{Ordering, Two, chars, digits, front_of, is_utf8, lines_text, output, tokens_of, utf8_valid_len}
 
 -- A commit of session 2 falls between the begin and the install of a refresh of session 1: the
 -- view's point is the SCN of the begin, so the query finds it stale.
 pub commit_between_begin_and_install :
-    output Ordering (lines_text (
+    output (Ordering Two) (lines_text (
     codes "@setup"
     ∷ codes "CREATE TABLE T (G VARCHAR2(4), A NUMBER);"
     ∷ codes "INSERT INTO T VALUES ('P',1);"
@@ -19,7 +19,8 @@ pub commit_between_begin_and_install :
     ∷ codes "@end"
     ∷ []))
     ≡ Ok (lines_text (
-    codes "0.1 DONE SCN 1 READ 0"
+    codes "mviewdb 2"
+    ∷ codes "0.1 DONE SCN 1 READ 0"
     ∷ codes "0.2 COMMITTED SCN 2 ROWS 1 READ 0 VIEWS 0"
     ∷ codes "0.3 DONE SCN 2 READ 1"
     ∷ codes "0.4 COMMITTED SCN 3 ROWS 1 READ 0 VIEWS 0"
@@ -34,7 +35,7 @@ commit_between_begin_and_install = refl
 
 -- The same script, where SHOW VIEW says so.
 pub point_is_scn_of_begin :
-    output Ordering (lines_text (
+    output (Ordering Two) (lines_text (
     codes "@setup"
     ∷ codes "CREATE TABLE T (G VARCHAR2(4), A NUMBER);"
     ∷ codes "INSERT INTO T VALUES ('P',1);"
@@ -50,7 +51,8 @@ pub point_is_scn_of_begin :
     ∷ codes "@end"
     ∷ []))
     ≡ Ok (lines_text (
-    codes "0.1 DONE SCN 1 READ 0"
+    codes "mviewdb 2"
+    ∷ codes "0.1 DONE SCN 1 READ 0"
     ∷ codes "0.2 COMMITTED SCN 2 ROWS 1 READ 0 VIEWS 0"
     ∷ codes "0.3 DONE SCN 2 READ 1"
     ∷ codes "0.4 COMMITTED SCN 3 ROWS 1 READ 0 VIEWS 0"

@@ -1,9 +1,9 @@
 use Rattle.std.specs.Prelude.{Ok, [], codes, refl, ◌∷◌, ◌≡◌}
-use Rattle.def_rows.specs.Lines.{Ordering, chars, digits, front_of, is_utf8, lines_text, output, tokens_of, utf8_valid_len}
+use Rattle.def_rows.specs.Lines.{Ordering, Two, chars, digits, front_of, is_utf8, lines_text, output, tokens_of, utf8_valid_len}
 
 -- A block is all or nothing: the second row with the same key undoes the first.
 pub duplicate_key_undoes_block :
-    output Ordering (lines_text (
+    output (Ordering Two) (lines_text (
     codes "@setup"
     ∷ codes "CREATE TABLE K (I NUMBER PRIMARY KEY);"
     ∷ codes "BEGIN; INSERT INTO K VALUES (1); INSERT INTO K VALUES (1); COMMIT;"
@@ -11,7 +11,8 @@ pub duplicate_key_undoes_block :
     ∷ codes "@end"
     ∷ []))
     ≡ Ok (lines_text (
-    codes "0.1 DONE SCN 1 READ 0"
+    codes "mviewdb 2"
+    ∷ codes "0.1 DONE SCN 1 READ 0"
     ∷ codes "0.2 REFUSED MV-06 AT 2 K I READ 0"
     ∷ codes "0.3 ANSWER SCN 1 PLAN BASE READ 0 ROWS 1"
     ∷ codes "0"

@@ -1,9 +1,9 @@
 use Rattle.std.specs.Prelude.{Ok, [], codes, refl, ◌∷◌, ◌≡◌}
-use Rattle.def_rows.specs.Lines.{Ordering, chars, digits, front_of, is_utf8, lines_text, output, tokens_of, utf8_valid_len}
+use Rattle.def_rows.specs.Lines.{Ordering, Two, chars, digits, front_of, is_utf8, lines_text, output, tokens_of, utf8_valid_len}
 
 -- A fact row and its dimension row change in one block: the fast refresh takes the old and the new sides of both.
 pub both_tables_changed :
-    output Ordering (lines_text (
+    output (Ordering Two) (lines_text (
     codes "@setup"
     ∷ codes "CREATE TABLE P (ID NUMBER PRIMARY KEY, CAT VARCHAR2(4));"
     ∷ codes "CREATE TABLE S (PID NUMBER NOT NULL REFERENCES P (ID), AMT NUMBER);"
@@ -18,7 +18,8 @@ pub both_tables_changed :
     ∷ codes "@end"
     ∷ []))
     ≡ Ok (lines_text (
-    codes "0.1 DONE SCN 1 READ 0"
+    codes "mviewdb 2"
+    ∷ codes "0.1 DONE SCN 1 READ 0"
     ∷ codes "0.2 DONE SCN 2 READ 0"
     ∷ codes "0.3 DONE SCN 3 READ 0"
     ∷ codes "0.4 DONE SCN 4 READ 0"
@@ -37,7 +38,7 @@ both_tables_changed = refl
 
 -- Where another table than the root changed, a fast refresh reads all rows of all tables.
 pub dimension_changed :
-    output Ordering (lines_text (
+    output (Ordering Two) (lines_text (
     codes "@setup"
     ∷ codes "CREATE TABLE P (ID NUMBER PRIMARY KEY, CAT VARCHAR2(4));"
     ∷ codes "CREATE TABLE S (PID NUMBER NOT NULL REFERENCES P (ID), AMT NUMBER);"
@@ -51,7 +52,8 @@ pub dimension_changed :
     ∷ codes "@end"
     ∷ []))
     ≡ Ok (lines_text (
-    codes "0.1 DONE SCN 1 READ 0"
+    codes "mviewdb 2"
+    ∷ codes "0.1 DONE SCN 1 READ 0"
     ∷ codes "0.2 DONE SCN 2 READ 0"
     ∷ codes "0.3 DONE SCN 3 READ 0"
     ∷ codes "0.4 DONE SCN 4 READ 0"
@@ -67,7 +69,7 @@ dimension_changed = refl
 
 -- Where the root alone changed, it reads the rows of the other tables.
 pub root_changed :
-    output Ordering (lines_text (
+    output (Ordering Two) (lines_text (
     codes "@setup"
     ∷ codes "CREATE TABLE P (ID NUMBER PRIMARY KEY, CAT VARCHAR2(4));"
     ∷ codes "CREATE TABLE S (PID NUMBER NOT NULL REFERENCES P (ID), AMT NUMBER);"
@@ -82,7 +84,8 @@ pub root_changed :
     ∷ codes "@end"
     ∷ []))
     ≡ Ok (lines_text (
-    codes "0.1 DONE SCN 1 READ 0"
+    codes "mviewdb 2"
+    ∷ codes "0.1 DONE SCN 1 READ 0"
     ∷ codes "0.2 DONE SCN 2 READ 0"
     ∷ codes "0.3 DONE SCN 3 READ 0"
     ∷ codes "0.4 DONE SCN 4 READ 0"

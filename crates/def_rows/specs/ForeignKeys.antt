@@ -1,9 +1,9 @@
 use Rattle.std.specs.Prelude.{Ok, [], codes, refl, ◌∷◌, ◌≡◌}
-use Rattle.def_rows.specs.Lines.{Ordering, chars, digits, front_of, is_utf8, lines_text, output, tokens_of, utf8_valid_len}
+use Rattle.def_rows.specs.Lines.{Ordering, Two, chars, digits, front_of, is_utf8, lines_text, output, tokens_of, utf8_valid_len}
 
 -- Each statement of a block has to leave the keys in order: parents before children, and no parent goes that has a child.
 pub foreign_keys :
-    output Ordering (lines_text (
+    output (Ordering Two) (lines_text (
     codes "@setup"
     ∷ codes "CREATE TABLE P (ID NUMBER PRIMARY KEY);"
     ∷ codes "CREATE TABLE C (PID NUMBER REFERENCES P (ID));"
@@ -13,7 +13,8 @@ pub foreign_keys :
     ∷ codes "@end"
     ∷ []))
     ≡ Ok (lines_text (
-    codes "0.1 DONE SCN 1 READ 0"
+    codes "mviewdb 2"
+    ∷ codes "0.1 DONE SCN 1 READ 0"
     ∷ codes "0.2 DONE SCN 2 READ 0"
     ∷ codes "0.3 COMMITTED SCN 3 ROWS 2 READ 0 VIEWS 0"
     ∷ codes "0.4 REFUSED MV-07 AT 1 C PID READ 0"

@@ -77,14 +77,16 @@ parts_built = refl
 pub parts_not_built :
     built_alone (
     codes "CREATE TABLE T (A NUMBER) PARTITION BY RANGE (A) (PARTITION P VALUES LESS THAN (9));"
+    ∷ codes "CREATE TABLE T (A NUMBER) PARTITION BY RANGE (A) (PARTITION P VALUES LESS THAN (9)) ENABLE ROW MOVEMENT;"
     ∷ codes "SELECT A FROM T AS OF SCN 1;"
     ∷ codes "CREATE MATERIALIZED VIEW V REFRESH FAST AS SELECT A FROM T;"
     ∷ codes "CREATE MATERIALIZED VIEW V REFRESH COMPLETE ON COMMIT AS SELECT A FROM T;"
     ∷ codes "EXEC DBMS_MVIEW.REFRESH('V');"
     ∷ codes "EXEC DBMS_MVIEW.REFRESH('V', '?');"
+    ∷ codes "EXEC DBMS_MVIEW.REFRESH('V,W', 'C');"
     ∷ codes "SHOW LOG T;"
     ∷ [])
-    ≡ replicate 7 (Err (record { line = 2; kind = NotBuilt }))
+    ≡ replicate 9 (Err (record { line = 2; kind = NotBuilt }))
 unfolding built_script digits utf8_valid_len is_utf8 chars lib.Utf8.encode tokens_of front_of next_record strip_bom
 parts_not_built = refl
 
@@ -92,15 +94,35 @@ parts_not_built = refl
 pub forms_not_built :
     built_alone (
     codes "ALTER TABLE T DROP PARTITION P;"
+    ∷ codes "ALTER TABLE T SPLIT PARTITION P AT (5) INTO (PARTITION Q, PARTITION R);"
+    ∷ codes "ALTER TABLE T MERGE PARTITIONS P, Q INTO PARTITION R;"
+    ∷ codes "ALTER TABLE T DISABLE ROW MOVEMENT;"
     ∷ codes "DROP MATERIALIZED VIEW LOG ON T;"
     ∷ codes "DROP DIMENSION D;"
     ∷ codes "PURGE UNDO TO SCN 1;"
     ∷ codes "EXPLAIN REWRITE SELECT A FROM T;"
     ∷ codes "SET TRANSACTION READ ONLY;"
     ∷ [])
-    ≡ replicate 6 (Err (record { line = 2; kind = NotBuilt }))
+    ≡ replicate 9 (Err (record { line = 2; kind = NotBuilt }))
 unfolding built_script digits utf8_valid_len is_utf8 chars lib.Utf8.encode tokens_of front_of next_record strip_bom
 forms_not_built = refl
+
+-- dates run: columns of that kind, and literals
+pub dates_built :
+    built_alone (
+    codes "CREATE TABLE T (A NUMBER, D DATE);"
+    ∷ codes "INSERT INTO T VALUES (1, DATE '2024-02-29');"
+    ∷ codes "UPDATE T SET D = DATE '2024-02-29';"
+    ∷ codes "UPDATE T SET A = 1 WHERE D = DATE '2024-02-29';"
+    ∷ codes "DELETE FROM T WHERE D IN ('', DATE '2024-02-29');"
+    ∷ codes "SELECT A FROM T WHERE D BETWEEN DATE '2024-02-29' AND '';"
+    ∷ codes "SELECT A FROM T GROUP BY A HAVING MIN(D) = DATE '2024-02-29';"
+    ∷ codes "CREATE MATERIALIZED VIEW V AS SELECT A FROM T WHERE D = DATE '2024-02-29';"
+    ∷ codes "BEGIN; INSERT INTO T VALUES (1, DATE '2024-02-29'); COMMIT;"
+    ∷ [])
+    ≡ replicate 9 (Err (record { line = 2; kind = NoEnd }))
+unfolding built_script digits utf8_valid_len is_utf8 chars lib.Utf8.encode tokens_of front_of next_record strip_bom
+dates_built = refl
 
 -- a refresh has two parts, and all else one
 pub order_too_long :
@@ -169,3 +191,51 @@ pub open_statement :
     built (lines_text (codes "@setup" ∷ codes "DROP DIMENSION D" ∷ codes "@session 1" ∷ [])) ≡ Err (record { line = 2; kind = OpenStatement })
 unfolding built_script digits utf8_valid_len is_utf8 chars lib.Utf8.encode tokens_of front_of next_record strip_bom
 open_statement = refl
+
+-- row movement stands behind partitions alone, and a bound of SPLIT is a literal
+pub not_in_the_grammar :
+    built_alone (
+    codes "CREATE TABLE T (A NUMBER) ENABLE ROW MOVEMENT;"
+    ∷ codes "CREATE TABLE T (A NUMBER) PARTITION BY RANGE (A) (PARTITION P VALUES LESS THAN (9)) DISABLE ROW MOVEMENT;"
+    ∷ codes "ALTER TABLE T SPLIT PARTITION P AT (MAXVALUE) INTO (PARTITION Q, PARTITION R);"
+    ∷ codes "ALTER TABLE T SPLIT PARTITION P AT 5 INTO (PARTITION Q, PARTITION R);"
+    ∷ codes "ALTER TABLE T MERGE PARTITIONS P INTO PARTITION R;"
+    ∷ [])
+    ≡ replicate 5 (Err (record { line = 2; kind = Syntax }))
+unfolding built_script digits utf8_valid_len is_utf8 chars lib.Utf8.encode tokens_of front_of next_record strip_bom
+not_in_the_grammar = refl
+
+-- a view over a view is told where both are there, in whatever order they stand
+pub view_over_a_view :
+    built (lines_text (
+    codes "@setup"
+    ∷ codes "CREATE MATERIALIZED VIEW V AS SELECT A, SUM(B) C FROM T GROUP BY A;"
+    ∷ codes "CREATE MATERIALIZED VIEW W AS SELECT A, SUM(B) C FROM T GROUP BY A;"
+    ∷ codes "CREATE MATERIALIZED VIEW N AS SELECT A, SUM(C) FROM V X GROUP BY A;"
+    ∷ codes "CREATE MATERIALIZED VIEW N AS SELECT A, SUM(C) FROM V GROUP BY A;"
+    ∷ []))
+    ≡ Err (record { line = 5; kind = NotBuilt })
+unfolding built_script digits utf8_valid_len is_utf8 chars lib.Utf8.encode tokens_of front_of next_record strip_bom
+view_over_a_view = refl
+
+pub view_beneath_created_behind :
+    built (lines_text (
+    codes "@session 1"
+    ∷ codes "CREATE MATERIALIZED VIEW N AS SELECT A, SUM(C) FROM V GROUP BY A;"
+    ∷ codes "@session 2"
+    ∷ codes "CREATE MATERIALIZED VIEW V AS SELECT A, SUM(B) C FROM T GROUP BY A;"
+    ∷ []))
+    ≡ Err (record { line = 4; kind = NotBuilt })
+unfolding built_script digits utf8_valid_len is_utf8 chars lib.Utf8.encode tokens_of front_of next_record strip_bom
+view_beneath_created_behind = refl
+
+-- jobs
+pub workers :
+    built (lines_text (codes "@setup" ∷ codes "@workers 2" ∷ [])) ≡ Err (record { line = 2; kind = NotBuilt })
+unfolding built_script digits utf8_valid_len is_utf8 chars lib.Utf8.encode tokens_of front_of next_record strip_bom
+workers = refl
+
+pub submit :
+    built (lines_text (codes "@session 1" ∷ codes "SUBMIT EXEC DBMS_MVIEW.REFRESH('V', 'C');" ∷ [])) ≡ Err (record { line = 2; kind = NotBuilt })
+unfolding built_script digits utf8_valid_len is_utf8 chars lib.Utf8.encode tokens_of front_of next_record strip_bom
+submit = refl

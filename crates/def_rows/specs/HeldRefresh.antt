@@ -1,9 +1,9 @@
 use Rattle.std.specs.Prelude.{Ok, [], codes, refl, ◌∷◌, ◌≡◌}
-use Rattle.def_rows.specs.Lines.{Ordering, chars, digits, front_of, is_utf8, lines_text, output, tokens_of, utf8_valid_len}
+use Rattle.def_rows.specs.Lines.{Ordering, Two, chars, digits, front_of, is_utf8, lines_text, output, tokens_of, utf8_valid_len}
 
 -- A purge between begin and install keeps what the view's old point needs.
 pub purge_between_begin_and_install :
-    output Ordering (lines_text (
+    output (Ordering Two) (lines_text (
     codes "@setup"
     ∷ codes "CREATE TABLE T (G VARCHAR2(4), A NUMBER);"
     ∷ codes "CREATE MATERIALIZED VIEW LOG ON T WITH ROWID, SEQUENCE (G, A) INCLUDING NEW VALUES;"
@@ -18,7 +18,8 @@ pub purge_between_begin_and_install :
     ∷ codes "@end"
     ∷ []))
     ≡ Ok (lines_text (
-    codes "0.1 DONE SCN 1 READ 0"
+    codes "mviewdb 2"
+    ∷ codes "0.1 DONE SCN 1 READ 0"
     ∷ codes "0.2 DONE SCN 2 READ 0"
     ∷ codes "0.3 COMMITTED SCN 3 ROWS 1 READ 0 VIEWS 0"
     ∷ codes "0.4 DONE SCN 3 READ 1"
@@ -32,7 +33,7 @@ purge_between_begin_and_install = refl
 
 -- Where the view is unregistered in between, the purge takes all rows. The refresh was computed before, and its install registers the view again.
 pub unregistered_between_begin_and_install :
-    output Ordering (lines_text (
+    output (Ordering Two) (lines_text (
     codes "@setup"
     ∷ codes "CREATE TABLE T (G VARCHAR2(4), A NUMBER);"
     ∷ codes "CREATE MATERIALIZED VIEW LOG ON T WITH ROWID, SEQUENCE (G, A) INCLUDING NEW VALUES;"
@@ -49,7 +50,8 @@ pub unregistered_between_begin_and_install :
     ∷ codes "@end"
     ∷ []))
     ≡ Ok (lines_text (
-    codes "0.1 DONE SCN 1 READ 0"
+    codes "mviewdb 2"
+    ∷ codes "0.1 DONE SCN 1 READ 0"
     ∷ codes "0.2 DONE SCN 2 READ 0"
     ∷ codes "0.3 COMMITTED SCN 3 ROWS 1 READ 0 VIEWS 0"
     ∷ codes "0.4 DONE SCN 3 READ 1"
@@ -66,7 +68,7 @@ unregistered_between_begin_and_install = refl
 
 -- A new view with the name of the dropped one is another view.
 pub view_replaced_between_begin_and_install :
-    output Ordering (lines_text (
+    output (Ordering Two) (lines_text (
     codes "@setup"
     ∷ codes "CREATE TABLE T (G VARCHAR2(4), A NUMBER);"
     ∷ codes "INSERT INTO T VALUES ('P',1);"
@@ -81,7 +83,8 @@ pub view_replaced_between_begin_and_install :
     ∷ codes "@end"
     ∷ []))
     ≡ Ok (lines_text (
-    codes "0.1 DONE SCN 1 READ 0"
+    codes "mviewdb 2"
+    ∷ codes "0.1 DONE SCN 1 READ 0"
     ∷ codes "0.2 COMMITTED SCN 2 ROWS 1 READ 0 VIEWS 0"
     ∷ codes "0.3 DONE SCN 2 READ 1"
     ∷ codes "0.4 COMMITTED SCN 3 ROWS 1 READ 0 VIEWS 0"

@@ -1,9 +1,9 @@
 use Rattle.std.specs.Prelude.{Ok, [], codes, refl, ◌∷◌, ◌≡◌}
-use Rattle.def_rows.specs.Lines.{Ordering, chars, digits, front_of, is_utf8, lines_text, output, tokens_of, utf8_valid_len}
+use Rattle.def_rows.specs.Lines.{Ordering, Two, chars, digits, front_of, is_utf8, lines_text, output, tokens_of, utf8_valid_len}
 
 -- A join view is refreshed by rowids, so it has to select the rowid of each of its tables.
 pub join_view_fast_refresh :
-    output Ordering (lines_text (
+    output (Ordering Two) (lines_text (
     codes "@setup"
     ∷ codes "CREATE TABLE P (ID NUMBER PRIMARY KEY, CAT VARCHAR2(4));"
     ∷ codes "CREATE TABLE S (PID NUMBER NOT NULL REFERENCES P (ID), AMT NUMBER);"
@@ -19,7 +19,8 @@ pub join_view_fast_refresh :
     ∷ codes "@end"
     ∷ []))
     ≡ Ok (lines_text (
-    codes "0.1 DONE SCN 1 READ 0"
+    codes "mviewdb 2"
+    ∷ codes "0.1 DONE SCN 1 READ 0"
     ∷ codes "0.2 DONE SCN 2 READ 0"
     ∷ codes "0.3 DONE SCN 3 READ 0"
     ∷ codes "0.4 DONE SCN 4 READ 0"

@@ -1,10 +1,10 @@
 use Rattle.std.specs.Prelude.{Ok, [], codes, refl, ◌∷◌, ◌≡◌}
-use Rattle.def_rows.specs.Lines.{Ordering, chars, digits, front_of, is_utf8, lines_text, output, tokens_of, utf8_valid_len}
+use Rattle.def_rows.specs.Lines.{Ordering, Two, chars, digits, front_of, is_utf8, lines_text, output, tokens_of, utf8_valid_len}
 
 -- Without a log, and with a log that is younger than the view's point, a fast refresh is
 -- refused. FORCE then refreshes completely, and after it the log serves.
 pub no_log_then_log_too_young :
-    output Ordering (lines_text (
+    output (Ordering Two) (lines_text (
     codes "@setup"
     ∷ codes "CREATE TABLE T (G VARCHAR2(4), A NUMBER);"
     ∷ codes "INSERT INTO T VALUES ('P',1);"
@@ -17,7 +17,8 @@ pub no_log_then_log_too_young :
     ∷ codes "@end"
     ∷ []))
     ≡ Ok (lines_text (
-    codes "0.1 DONE SCN 1 READ 0"
+    codes "mviewdb 2"
+    ∷ codes "0.1 DONE SCN 1 READ 0"
     ∷ codes "0.2 COMMITTED SCN 2 ROWS 1 READ 0 VIEWS 0"
     ∷ codes "0.3 DONE SCN 2 READ 1"
     ∷ codes "0.4 REFUSED MV-22 F3 T READ 0"

@@ -9,10 +9,11 @@ use Rattle.wh_lex.specs.Lex.{tokens_of}
 use Rattle.wh_lex.specs.Tokens.{front_of}
 use Rattle.def_transcript.specs.Texts.{lines_text}
 use Rattle.def_output.specs.Output.{output, Ordering}
+use Rattle.wh_base.specs.declared.values.Version.TheVariants.{Two}
 use Rattle.wh_base.specs.declared.statements.ScriptKind.TheVariants as kinds
 
 -- CREATE TABLE: columns, keys, foreign keys, element by element
-pub tables : output Ordering (lines_text (
+pub tables : output (Ordering Two) (lines_text (
     codes "@setup"
     ∷ codes "CREATE TABLE T (A NUMBER, A NUMBER);"
     ∷ codes "CREATE TABLE T (A NUMBER(16), A NUMBER);"
@@ -29,7 +30,8 @@ pub tables : output Ordering (lines_text (
     ∷ codes "@end"
     ∷ []))
     ≡ Ok (lines_text (
-    codes "0.1 REFUSED MV-01 A READ 0"
+    codes "mviewdb 2"
+    ∷ codes "0.1 REFUSED MV-01 A READ 0"
     ∷ codes "0.2 REFUSED MV-04 T A READ 0"
     ∷ codes "0.3 REFUSED MV-01 B READ 0"
     ∷ codes "0.4 REFUSED MV-01 A READ 0"
@@ -47,7 +49,7 @@ unfolding digits utf8_valid_len is_utf8 chars lib.Utf8.encode next_record strip_
 tables = refl
 
 -- partitions of CREATE TABLE and ALTER TABLE, and the number of a partition that was added
-pub partitions : output Ordering (lines_text (
+pub partitions : output (Ordering Two) (lines_text (
     codes "@setup"
     ∷ codes "CREATE TABLE T (A NUMBER) PARTITION BY RANGE (B) (PARTITION P1 VALUES LESS THAN (1));"
     ∷ codes "CREATE TABLE T (A NUMBER) PARTITION BY RANGE (A) (PARTITION P1 VALUES LESS THAN (1), PARTITION P1 VALUES LESS THAN (0));"
@@ -71,7 +73,8 @@ pub partitions : output Ordering (lines_text (
     ∷ codes "@end"
     ∷ []))
     ≡ Ok (lines_text (
-    codes "0.1 REFUSED MV-03 B READ 0"
+    codes "mviewdb 2"
+    ∷ codes "0.1 REFUSED MV-03 B READ 0"
     ∷ codes "0.2 REFUSED MV-01 P1 READ 0"
     ∷ codes "0.3 REFUSED MV-04 T A READ 0"
     ∷ codes "0.4 REFUSED MV-04 T A READ 0"
@@ -97,7 +100,7 @@ unfolding digits utf8_valid_len is_utf8 chars lib.Utf8.encode next_record strip_
 partitions = refl
 
 -- INSERT, UPDATE and DELETE: names, repeats, kinds, sizes; a SET list reads the old values
-pub changes : output Ordering (lines_text (
+pub changes : output (Ordering Two) (lines_text (
     codes "@setup"
     ∷ codes "CREATE TABLE U (A NUMBER, B NUMBER, C VARCHAR2(2));"
     ∷ codes "INSERT INTO U VALUES (1,2,'x'),(NULL,3,NULL);"
@@ -116,7 +119,8 @@ pub changes : output Ordering (lines_text (
     ∷ codes "@end"
     ∷ []))
     ≡ Ok (lines_text (
-    codes "0.1 DONE SCN 1 READ 0"
+    codes "mviewdb 2"
+    ∷ codes "0.1 DONE SCN 1 READ 0"
     ∷ codes "0.2 COMMITTED SCN 2 ROWS 2 READ 0 VIEWS 0"
     ∷ codes "0.3 COMMITTED SCN 3 ROWS 2 READ 2 VIEWS 0"
     ∷ codes "0.4 ANSWER SCN 3 PLAN BASE READ 2 ROWS 2"
@@ -138,7 +142,7 @@ unfolding digits utf8_valid_len is_utf8 chars lib.Utf8.encode next_record strip_
 changes = refl
 
 -- queries: tables, columns, kinds, stars, groups
-pub queries : output Ordering (lines_text (
+pub queries : output (Ordering Two) (lines_text (
     codes "@setup"
     ∷ codes "CREATE TABLE P (ID NUMBER PRIMARY KEY, CAT VARCHAR2(4));"
     ∷ codes "CREATE TABLE S (PID NUMBER, A NUMBER);"
@@ -164,7 +168,8 @@ pub queries : output Ordering (lines_text (
     ∷ codes "@end"
     ∷ []))
     ≡ Ok (lines_text (
-    codes "0.1 DONE SCN 1 READ 0"
+    codes "mviewdb 2"
+    ∷ codes "0.1 DONE SCN 1 READ 0"
     ∷ codes "0.2 DONE SCN 2 READ 0"
     ∷ codes "0.3 REFUSED MV-02 Q READ 0"
     ∷ codes "0.4 REFUSED MV-03 2 READ 0"
@@ -191,7 +196,7 @@ unfolding digits utf8_valid_len is_utf8 chars lib.Utf8.encode next_record strip_
 queries = refl
 
 -- CREATE DIMENSION: levels and hierarchies; a JOIN KEY stands in the table of each level below its parent
-pub dims : output Ordering (lines_text (
+pub dims : output (Ordering Two) (lines_text (
     codes "@setup"
     ∷ codes "CREATE TABLE TA (A NUMBER, X NUMBER);"
     ∷ codes "CREATE TABLE TB (B NUMBER);"
@@ -205,7 +210,8 @@ pub dims : output Ordering (lines_text (
     ∷ codes "@end"
     ∷ []))
     ≡ Ok (lines_text (
-    codes "0.1 DONE SCN 1 READ 0"
+    codes "mviewdb 2"
+    ∷ codes "0.1 DONE SCN 1 READ 0"
     ∷ codes "0.2 DONE SCN 2 READ 0"
     ∷ codes "0.3 DONE SCN 3 READ 0"
     ∷ codes "0.4 REFUSED MV-03 TA.X READ 0"
@@ -220,7 +226,7 @@ unfolding digits utf8_valid_len is_utf8 chars lib.Utf8.encode next_record strip_
 dims = refl
 
 -- a semicolon by itself
-pub alone : output Ordering (lines_text (
+pub alone : output (Ordering Two) (lines_text (
     codes "@setup"
     ∷ codes "COMMIT;"
     ∷ codes " ;"
@@ -231,7 +237,7 @@ unfolding digits utf8_valid_len is_utf8 chars lib.Utf8.encode next_record strip_
 alone = refl
 
 -- a LOAD block inside a statement
-pub load_in_open : output Ordering (lines_text (
+pub load_in_open : output (Ordering Two) (lines_text (
     codes "@setup"
     ∷ codes "COMMIT; COMMIT"
     ∷ codes "@load T"
@@ -243,7 +249,7 @@ unfolding digits utf8_valid_len is_utf8 chars lib.Utf8.encode next_record strip_
 load_in_open = refl
 
 -- a section ends inside a statement
-pub open_stmt : output Ordering (lines_text (
+pub open_stmt : output (Ordering Two) (lines_text (
     codes "@setup"
     ∷ codes "COMMIT; COMMIT"
     ∷ codes "@end"
@@ -253,7 +259,7 @@ unfolding digits utf8_valid_len is_utf8 chars lib.Utf8.encode next_record strip_
 open_stmt = refl
 
 -- an open statement goes before an open block
-pub open_first : output Ordering (lines_text (
+pub open_first : output (Ordering Two) (lines_text (
     codes "@setup"
     ∷ codes "BEGIN; INSERT INTO T"
     ∷ codes "@end"
@@ -263,7 +269,7 @@ unfolding digits utf8_valid_len is_utf8 chars lib.Utf8.encode next_record strip_
 open_first = refl
 
 -- BEGIN inside a block
-pub nested : output Ordering (lines_text (
+pub nested : output (Ordering Two) (lines_text (
     codes "@setup"
     ∷ codes "BEGIN; BEGIN;"
     ∷ codes "@end"
@@ -273,7 +279,7 @@ unfolding digits utf8_valid_len is_utf8 chars lib.Utf8.encode next_record strip_
 nested = refl
 
 -- an open statement goes before a bad session number
-pub open_before_number : output Ordering (lines_text (
+pub open_before_number : output (Ordering Two) (lines_text (
     codes "@setup"
     ∷ codes "COMMIT"
     ∷ codes "@session x"
@@ -284,7 +290,7 @@ unfolding digits utf8_valid_len is_utf8 chars lib.Utf8.encode next_record strip_
 open_before_number = refl
 
 -- a bad directive inside a statement is told by its own line
-pub told_by_own_line : output Ordering (lines_text (
+pub told_by_own_line : output (Ordering Two) (lines_text (
     codes "@setup"
     ∷ codes "COMMIT"
     ∷ codes "@sesion 1"
@@ -295,7 +301,7 @@ unfolding digits utf8_valid_len is_utf8 chars lib.Utf8.encode next_record strip_
 told_by_own_line = refl
 
 -- text after @order stands in no section
-pub after_order : output Ordering (lines_text (
+pub after_order : output (Ordering Two) (lines_text (
     codes "@setup"
     ∷ codes "@order"
     ∷ codes "SELECT"
@@ -306,7 +312,7 @@ unfolding digits utf8_valid_len is_utf8 chars lib.Utf8.encode next_record strip_
 after_order = refl
 
 -- records with different numbers of fields
-pub shape : output Ordering (lines_text (
+pub shape : output (Ordering Two) (lines_text (
     codes "@setup"
     ∷ codes "@load T"
     ∷ codes "1,2"
@@ -319,7 +325,7 @@ unfolding digits utf8_valid_len is_utf8 chars lib.Utf8.encode next_record strip_
 shape = refl
 
 -- a LOAD of a word that is no name
-pub load_word : output Ordering (lines_text (
+pub load_word : output (Ordering Two) (lines_text (
     codes "@setup"
     ∷ codes "@load SELECT"
     ∷ codes "@endload"

@@ -1,9 +1,9 @@
 use Rattle.std.specs.Prelude.{Ok, [], codes, refl, ◌∷◌, ◌≡◌}
-use Rattle.def_rows.specs.Lines.{Ordering, chars, digits, front_of, is_utf8, lines_text, output, tokens_of, utf8_valid_len}
+use Rattle.def_rows.specs.Lines.{Ordering, Two, chars, digits, front_of, is_utf8, lines_text, output, tokens_of, utf8_valid_len}
 
 -- Two sessions refresh one view; the one that installs last finds another point than at its begin and is refused.
 pub overtaken_refresh :
-    output Ordering (lines_text (
+    output (Ordering Two) (lines_text (
     codes "@setup"
     ∷ codes "CREATE TABLE T (G VARCHAR2(4), A NUMBER);"
     ∷ codes "INSERT INTO T VALUES ('P',1);"
@@ -21,7 +21,8 @@ pub overtaken_refresh :
     ∷ codes "@end"
     ∷ []))
     ≡ Ok (lines_text (
-    codes "0.1 DONE SCN 1 READ 0"
+    codes "mviewdb 2"
+    ∷ codes "0.1 DONE SCN 1 READ 0"
     ∷ codes "0.2 COMMITTED SCN 2 ROWS 1 READ 0 VIEWS 0"
     ∷ codes "0.3 DONE SCN 2 READ 1"
     ∷ codes "0.4 COMMITTED SCN 3 ROWS 1 READ 0 VIEWS 0"

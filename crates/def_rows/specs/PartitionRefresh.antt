@@ -1,9 +1,9 @@
 use Rattle.std.specs.Prelude.{Ok, [], codes, refl, ◌∷◌, ◌≡◌}
-use Rattle.def_rows.specs.Lines.{Ordering, chars, digits, front_of, is_utf8, lines_text, output, tokens_of, utf8_valid_len}
+use Rattle.def_rows.specs.Lines.{Ordering, Two, chars, digits, front_of, is_utf8, lines_text, output, tokens_of, utf8_valid_len}
 
 -- A view grouped by PMARKER is refreshed by partitions: the touched one alone is computed anew.
 pub refresh_by_marker :
-    output Ordering (lines_text (
+    output (Ordering Two) (lines_text (
     codes "@setup"
     ∷ codes "CREATE TABLE S (K NUMBER, A NUMBER) PARTITION BY RANGE (K) (PARTITION P1 VALUES LESS THAN (10), PARTITION P2 VALUES LESS THAN (20));"
     ∷ codes "INSERT INTO S VALUES (5,1),(15,2);"
@@ -17,7 +17,8 @@ pub refresh_by_marker :
     ∷ codes "@end"
     ∷ []))
     ≡ Ok (lines_text (
-    codes "0.1 DONE SCN 1 READ 0"
+    codes "mviewdb 2"
+    ∷ codes "0.1 DONE SCN 1 READ 0"
     ∷ codes "0.2 COMMITTED SCN 2 ROWS 2 READ 0 VIEWS 0"
     ∷ codes "0.3 DONE SCN 2 READ 2"
     ∷ codes "0.4 REFUSED MV-23 P2 READ 0"
@@ -38,7 +39,7 @@ refresh_by_marker = refl
 
 -- A view over no partitioned table can't be refreshed by partitions.
 pub no_partitioned_table :
-    output Ordering (lines_text (
+    output (Ordering Two) (lines_text (
     codes "@setup"
     ∷ codes "CREATE TABLE T (G VARCHAR2(4), A NUMBER);"
     ∷ codes "INSERT INTO T VALUES ('P',10),('P',5),('Q',NULL);"
@@ -47,7 +48,8 @@ pub no_partitioned_table :
     ∷ codes "@end"
     ∷ []))
     ≡ Ok (lines_text (
-    codes "0.1 DONE SCN 1 READ 0"
+    codes "mviewdb 2"
+    ∷ codes "0.1 DONE SCN 1 READ 0"
     ∷ codes "0.2 COMMITTED SCN 2 ROWS 3 READ 0 VIEWS 0"
     ∷ codes "0.3 DONE SCN 2 READ 3"
     ∷ codes "0.4 REFUSED MV-23 P1 READ 0"

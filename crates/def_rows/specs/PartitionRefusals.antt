@@ -1,10 +1,10 @@
 use Rattle.std.specs.Prelude.{Ok, [], codes, refl, ◌∷◌, ◌≡◌}
-use Rattle.def_rows.specs.Lines.{Ordering, chars, digits, front_of, is_utf8, lines_text, output, tokens_of, utf8_valid_len}
+use Rattle.def_rows.specs.Lines.{Ordering, Two, chars, digits, front_of, is_utf8, lines_text, output, tokens_of, utf8_valid_len}
 
 -- An update that would move a row to another partition, a bound that isn't above the last, a name
 -- that is taken, a table without a log, and an item that is no group column.
 pub partition_refusals :
-    output Ordering (lines_text (
+    output (Ordering Two) (lines_text (
     codes "@setup"
     ∷ codes "CREATE TABLE S (K NUMBER, A NUMBER) PARTITION BY RANGE (K) (PARTITION P1 VALUES LESS THAN (10), PARTITION P2 VALUES LESS THAN (20));"
     ∷ codes "INSERT INTO S VALUES (5,1),(15,2);"
@@ -17,7 +17,8 @@ pub partition_refusals :
     ∷ codes "@end"
     ∷ []))
     ≡ Ok (lines_text (
-    codes "0.1 DONE SCN 1 READ 0"
+    codes "mviewdb 2"
+    ∷ codes "0.1 DONE SCN 1 READ 0"
     ∷ codes "0.2 COMMITTED SCN 2 ROWS 2 READ 0 VIEWS 0"
     ∷ codes "0.3 DONE SCN 2 READ 2"
     ∷ codes "0.4 REFUSED MV-10 AT 1 S READ 2"
@@ -32,7 +33,7 @@ partition_refusals = refl
 
 -- A partition isn't truncated while an enabled foreign key refers to its table.
 pub truncate_of_a_referenced_table :
-    output Ordering (lines_text (
+    output (Ordering Two) (lines_text (
     codes "@setup"
     ∷ codes "CREATE TABLE P (ID NUMBER PRIMARY KEY) PARTITION BY RANGE (ID) (PARTITION A VALUES LESS THAN (10));"
     ∷ codes "CREATE TABLE C (PID NUMBER REFERENCES P (ID));"
@@ -40,7 +41,8 @@ pub truncate_of_a_referenced_table :
     ∷ codes "@end"
     ∷ []))
     ≡ Ok (lines_text (
-    codes "0.1 DONE SCN 1 READ 0"
+    codes "mviewdb 2"
+    ∷ codes "0.1 DONE SCN 1 READ 0"
     ∷ codes "0.2 DONE SCN 2 READ 0"
     ∷ codes "0.3 REFUSED MV-13 P C READ 0"
     ∷ codes "journal 0.1.1 0.2.1 0.3.1"

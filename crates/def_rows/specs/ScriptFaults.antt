@@ -1,11 +1,11 @@
 -- One script for each kind of fault, with the line that it is told by.
 use Rattle.std.specs.Prelude.{Err, [], codes, refl, ◌∷◌, ◌≡◌}
-use Rattle.def_rows.specs.Lines.{Ordering, chars, digits, front_of, is_utf8, lines_text, next_record, output, strip_bom, tokens_of, utf8_valid_len}
+use Rattle.def_rows.specs.Lines.{Ordering, Two, chars, digits, front_of, is_utf8, lines_text, next_record, output, strip_bom, tokens_of, utf8_valid_len}
 use Rattle.wh_base.specs.declared.statements.ScriptKind.TheVariants.{AfterEnd, BadCharacter, LoadShape, Misplaced, NoEnd, NotUtf8, OpenBlock, OpenLoad, OpenQuote, OpenStatement, OrderTooLong, OrderUnknown, SessionNumber, Syntax, UnknownDirective}
 
 -- Bytes that are no UTF-8: a byte that opens a character of two bytes, and nothing that goes on with it.
 pub not_utf8 :
-    output Ordering (lines_text (
+    output (Ordering Two) (lines_text (
     codes "@setup"
     ∷ (195 ∷ [])
     ∷ []))
@@ -15,7 +15,7 @@ not_utf8 = refl
 
 -- A name has at most 30 bytes; a longer one is no token.
 pub long_name :
-    output Ordering (lines_text (
+    output (Ordering Two) (lines_text (
     codes "@setup"
     ∷ codes "CREATE TABLE N23456789012345678901234567890X (A NUMBER);"
     ∷ codes "@end"
@@ -26,7 +26,7 @@ long_name = refl
 
 -- A text ends on its line.
 pub open_quote :
-    output Ordering (lines_text (
+    output (Ordering Two) (lines_text (
     codes "@setup"
     ∷ codes "SELECT 'a"
     ∷ []))
@@ -36,7 +36,7 @@ open_quote = refl
 
 -- There is no such directive.
 pub unknown_directive :
-    output Ordering (lines_text (
+    output (Ordering Two) (lines_text (
     codes "@setup"
     ∷ codes "CREATE TABLE T (A NUMBER);"
     ∷ codes "@finish"
@@ -47,7 +47,7 @@ unknown_directive = refl
 
 -- A directive with words too many isn't one either, and it is told by its own line also inside a statement.
 pub bad_words_of_a_directive :
-    output Ordering (lines_text (
+    output (Ordering Two) (lines_text (
     codes "@setup"
     ∷ codes "SELECT A"
     ∷ codes "@end now"
@@ -58,7 +58,7 @@ bad_words_of_a_directive = refl
 
 -- A statement in no section is out of its place.
 pub outside_every_section :
-    output Ordering (lines_text (
+    output (Ordering Two) (lines_text (
     codes "COMMIT;"
     ∷ []))
     ≡ Err (record { line = 1; kind = Misplaced })
@@ -67,7 +67,7 @@ outside_every_section = refl
 
 -- In a block the grammar has changes of rows and queries alone.
 pub in_a_block :
-    output Ordering (lines_text (
+    output (Ordering Two) (lines_text (
     codes "@setup"
     ∷ codes "BEGIN; COMMIT; BEGIN; DROP DIMENSION D; COMMIT;"
     ∷ codes "@end"
@@ -78,7 +78,7 @@ in_a_block = refl
 
 -- Sessions are numbered 1 to 64.
 pub session_65 :
-    output Ordering (lines_text (
+    output (Ordering Two) (lines_text (
     codes "@setup"
     ∷ codes "@session 65"
     ∷ codes "@end"
@@ -89,7 +89,7 @@ session_65 = refl
 
 -- Session numbers ascend.
 pub descending_sessions :
-    output Ordering (lines_text (
+    output (Ordering Two) (lines_text (
     codes "@session 2"
     ∷ codes "@session 1"
     ∷ codes "@end"
@@ -100,7 +100,7 @@ descending_sessions = refl
 
 -- A statement that isn't in the grammar is told by the line of its first token.
 pub no_items :
-    output Ordering (lines_text (
+    output (Ordering Two) (lines_text (
     codes "@setup"
     ∷ codes "SELECT"
     ∷ codes "FROM T;"
@@ -112,7 +112,7 @@ no_items = refl
 
 -- A section ends inside a statement.
 pub open_statement :
-    output Ordering (lines_text (
+    output (Ordering Two) (lines_text (
     codes "@setup"
     ∷ []
     ∷ codes "SELECT A"
@@ -125,7 +125,7 @@ open_statement = refl
 
 -- A section ends inside a block.
 pub open_block :
-    output Ordering (lines_text (
+    output (Ordering Two) (lines_text (
     codes "@setup"
     ∷ codes "BEGIN;"
     ∷ codes "@end"
@@ -136,7 +136,7 @@ open_block = refl
 
 -- A LOAD block has no end.
 pub open_load :
-    output Ordering (lines_text (
+    output (Ordering Two) (lines_text (
     codes "@setup"
     ∷ codes "CREATE TABLE T (A NUMBER);"
     ∷ codes "@load T"
@@ -148,7 +148,7 @@ open_load = refl
 
 -- The records of a LOAD block differ in their number of fields.
 pub uneven_load :
-    output Ordering (lines_text (
+    output (Ordering Two) (lines_text (
     codes "@setup"
     ∷ codes "CREATE TABLE T (A NUMBER, B NUMBER);"
     ∷ codes "@load T"
@@ -163,7 +163,7 @@ uneven_load = refl
 
 -- @order names a session that isn't there.
 pub order_of_no_session :
-    output Ordering (lines_text (
+    output (Ordering Two) (lines_text (
     codes "@session 1"
     ∷ codes "COMMIT;"
     ∷ codes "@order 2"
@@ -175,7 +175,7 @@ order_of_no_session = refl
 
 -- @order has more turns than a session has parts.
 pub order_too_long :
-    output Ordering (lines_text (
+    output (Ordering Two) (lines_text (
     codes "@session 1"
     ∷ codes "COMMIT;"
     ∷ codes "@order 1 1"
@@ -187,7 +187,7 @@ order_too_long = refl
 
 -- The script has no end; the line is its last one.
 pub no_end :
-    output Ordering (lines_text (
+    output (Ordering Two) (lines_text (
     codes "@setup"
     ∷ codes "CREATE TABLE T (A NUMBER);"
     ∷ []))
@@ -197,7 +197,7 @@ no_end = refl
 
 -- Only white space follows @end.
 pub after_end :
-    output Ordering (lines_text (
+    output (Ordering Two) (lines_text (
     codes "@end"
     ∷ []
     ∷ codes "x"

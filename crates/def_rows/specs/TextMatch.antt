@@ -1,10 +1,10 @@
 use Rattle.std.specs.Prelude.{Ok, [], codes, refl, ◌∷◌, ◌≡◌}
-use Rattle.def_rows.specs.Lines.{Ordering, chars, digits, front_of, is_utf8, lines_text, output, tokens_of, utf8_valid_len}
+use Rattle.def_rows.specs.Lines.{Ordering, Two, chars, digits, front_of, is_utf8, lines_text, output, tokens_of, utf8_valid_len}
 
 -- The view's own text in other letters and spaces is a full text match. Other items over the same FROM and GROUP BY are a partial one,
 -- a class that isn't built yet.
 pub full_and_partial_text_match :
-    output Ordering (lines_text (
+    output (Ordering Two) (lines_text (
     codes "@setup"
     ∷ codes "CREATE TABLE T (G VARCHAR2(4), A NUMBER);"
     ∷ codes "INSERT INTO T VALUES ('P',10),('P',5),('Q',NULL);"
@@ -14,7 +14,8 @@ pub full_and_partial_text_match :
     ∷ codes "@end"
     ∷ []))
     ≡ Ok (lines_text (
-    codes "0.1 DONE SCN 1 READ 0"
+    codes "mviewdb 2"
+    ∷ codes "0.1 DONE SCN 1 READ 0"
     ∷ codes "0.2 COMMITTED SCN 2 ROWS 3 READ 0 VIEWS 0"
     ∷ codes "0.3 DONE SCN 2 READ 3"
     ∷ codes "0.4 ANSWER SCN 2 PLAN FULL V@2 READ 0 ROWS 2"

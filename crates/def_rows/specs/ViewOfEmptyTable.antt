@@ -1,9 +1,9 @@
 use Rattle.std.specs.Prelude.{Ok, [], codes, refl, ◌∷◌, ◌≡◌}
-use Rattle.def_rows.specs.Lines.{Ordering, chars, digits, front_of, is_utf8, lines_text, output, tokens_of, utf8_valid_len}
+use Rattle.def_rows.specs.Lines.{Ordering, Two, chars, digits, front_of, is_utf8, lines_text, output, tokens_of, utf8_valid_len}
 
 -- A query without GROUP BY gives one row also from a view without rows: the sum is NULL and the count is 0.
 pub view_of_empty_table :
-    output Ordering (lines_text (
+    output (Ordering Two) (lines_text (
     codes "@setup"
     ∷ codes "CREATE TABLE T (G VARCHAR2(4), A NUMBER);"
     ∷ codes "CREATE MATERIALIZED VIEW V ENABLE QUERY REWRITE AS SELECT G, SUM(A), COUNT(A), COUNT(*) FROM T GROUP BY G;"
@@ -11,7 +11,8 @@ pub view_of_empty_table :
     ∷ codes "@end"
     ∷ []))
     ≡ Ok (lines_text (
-    codes "0.1 DONE SCN 1 READ 0"
+    codes "mviewdb 2"
+    ∷ codes "0.1 DONE SCN 1 READ 0"
     ∷ codes "0.2 DONE SCN 1 READ 0"
     ∷ codes "0.3 ANSWER SCN 1 PLAN BASE READ 0 ROWS 1"
     ∷ codes "|0"

@@ -1,11 +1,25 @@
 -- The words that the program knows.
-use Rattle.std.specs.Prelude.{None, Some, [], codes, refl, true, ◌∷◌, ◌≡◌}
-use Rattle.def_rows.specs.Lines.{Checking, Generating, Ordering, digits, form_of, is_run}
+use Rattle.std.specs.Prelude.{None, Some, [], codes, refl, ◌∷◌, ◌≡◌}
+use Rattle.def_rows.specs.Lines.{Checking, Generating, One, Ordering, Two, digits, form_of, run_version}
 
--- `order` runs the script in its own order.
-pub order : form_of (codes "order" ∷ []) ≡ Some Ordering
+-- `order` runs the script in its own order, and writes the second version of the transcript.
+pub order : form_of (codes "order" ∷ []) ≡ Some (Ordering Two)
 unfolding digits
 order = refl
+
+-- `order 1` writes the first version.
+pub order_1 : form_of (codes "order" ∷ codes "1" ∷ []) ≡ Some (Ordering One)
+unfolding digits
+order_1 = refl
+
+-- There is no other version to ask for, and `check` tells it from the transcript.
+pub order_2 : form_of (codes "order" ∷ codes "2" ∷ []) ≡ None
+unfolding digits
+order_2 = refl
+
+pub check_1 : form_of (codes "check" ∷ codes "1" ∷ []) ≡ None
+unfolding digits
+check_1 = refl
 
 -- `check` compares a transcript with the script's own.
 pub check : form_of (codes "check" ∷ []) ≡ Some Checking
@@ -42,7 +56,17 @@ pub other_letters : form_of (codes "ORDER" ∷ []) ≡ None
 unfolding digits
 other_letters = refl
 
--- `run` is the form whose output isn't determined.
-pub run : is_run (codes "run" ∷ []) ≡ true
+-- `run` is the form whose output isn't determined, in the second version.
+pub run : run_version (codes "run" ∷ []) ≡ Some Two
 unfolding digits
 run = refl
+
+-- `run 1` is the same in the first one.
+pub run_1 : run_version (codes "run" ∷ codes "1" ∷ []) ≡ Some One
+unfolding digits
+run_1 = refl
+
+-- No other word follows.
+pub run_2 : run_version (codes "run" ∷ codes "2" ∷ []) ≡ None
+unfolding digits
+run_2 = refl

@@ -1,5 +1,5 @@
--- The text of a reply: its header line and the lines after it.
-use Rattle.std.specs.Prelude.{Bool, List, None, Option, Some, [], codes, decimal, false, filter, flat_map, length, map, not, true, zip, ℕ, ◌++◌, ◌∷◌}
+-- The text of a reply: its header line and the lines after it. A line with values has a text in each version of transcripts.
+use Rattle.std.specs.Prelude.{Bool, List, None, Option, Some, [], codes, cond, decimal, false, filter, flat_map, length, map, not, true, zip, ℕ, ◌++◌, ◌==◌, ◌∷◌}
 use Rattle.wh_base.specs.Lists.{is_empty, option_case}
 use Rattle.wh_base.specs.Values.{int_text, parted_by, value_text}
 use Rattle.wh_base.specs.declared.logs.LogOp.{LogOp}
@@ -11,13 +11,14 @@ use Rattle.wh_base.specs.declared.replies.Broken.{Broken}
 use Rattle.wh_base.specs.declared.replies.Code.{Code}
 use Rattle.wh_base.specs.declared.replies.Counted.{Counted}
 use Rattle.wh_base.specs.declared.replies.Counted.TheVariants.{Columns, Dimensions, Partitions, Tables, Views}
+use Rattle.wh_base.specs.declared.replies.ListLine.{ListLine}
 use Rattle.wh_base.specs.declared.replies.PlanLine.{PlanLine}
 use Rattle.wh_base.specs.declared.replies.PlanLine.TheVariants.{BasePlan, ViewAt}
 use Rattle.wh_base.specs.declared.replies.Reason.{Reason}
 use Rattle.wh_base.specs.declared.replies.Refreshed.{Refreshed}
 use Rattle.wh_base.specs.declared.replies.Refreshed.TheVariants.{By, Suspended}
 use Rattle.wh_base.specs.declared.replies.Refusal.{Refusal}
-use Rattle.wh_base.specs.declared.replies.Refusal.TheVariants.{ChildExists, DuplicateKey, FastRefused, FutureScn, KeysReferenced, LastPartition, LogExists, NameTaken, NoLog, NoPartition, NoSuchColumn, NoSuchObject, NotAKey, NotGrouped, NotStar, NullNotAllowed, OnlyReading, Overtaken, ParentMissing, PartitionBound, PartitionRefused, RowMovement, SelectInBlock, SnapshotTooOld, StillUsed, TableFull, TooManyObjects, ValueDoesNotFit, VersionsFull}
+use Rattle.wh_base.specs.declared.replies.Refusal.TheVariants.{BeneathUnbuilt, ChildExists, DuplicateKey, FastRefused, FutureScn, KeysReferenced, LastPartition, LogExists, NameTaken, NoLog, NoPartition, NoSuchColumn, NoSuchObject, NotAKey, NotGrouped, NotNested, NotStar, NullNotAllowed, OnlyReading, Overtaken, ParentMissing, PartitionBound, PartitionRefused, RowMovement, SelectInBlock, SnapshotTooOld, StillUsed, TableFull, TooManyObjects, ValueDoesNotFit, VersionsFull}
 use Rattle.wh_base.specs.declared.replies.Reply.{Reply}
 use Rattle.wh_base.specs.declared.replies.Reply.TheVariants.{Commit, Explain, Purge, Refuse, Validate}
 use Rattle.wh_base.specs.declared.replies.Restricted.{Restricted}
@@ -28,14 +29,22 @@ use Rattle.wh_base.specs.declared.statements.Method.{Method}
 use Rattle.wh_base.specs.declared.statements.Method.TheVariants.{Complete, Fast, Force, Partition}
 use Rattle.wh_base.specs.declared.values.Interval.{Interval}
 use Rattle.wh_base.specs.declared.values.Value.{Value}
+use Rattle.wh_base.specs.declared.values.Version.{Version}
+use Rattle.wh_base.specs.declared.values.Version.TheVariants.{One, Two}
 use Rattle.wh_base.specs.declared.views.Class.{Class}
-use Rattle.wh_base.specs.declared.views.Class.TheVariants.{Full, General, JoinBack, Partial}
+use Rattle.wh_base.specs.declared.views.Class.TheVariants.{Concat, Full, General, JoinBack, Partial}
 use Rattle.wh_base.specs.declared.views.Verdict.{Verdict}
 use Rattle.wh_base.specs.declared.views.ViewState.{ViewState}
 use Rattle.wh_base.specs.declared.views.ViewState.TheVariants.{Fresh, Partly, Stale, Unbuilt}
 use Rattle.wh_base.specs.declared.replies.Reply.TheVariants as reply
 use Rattle.wh_base.specs.declared.replies.Reason.TheVariants as reason
 use Rattle.wh_base.specs.declared.replies.Code.TheVariants as code
+use Rattle.wh_base.specs.declared.replies.Place.{Place}
+use Rattle.wh_base.specs.declared.replies.Place.TheVariants as place
+use Rattle.wh_base.specs.declared.views.Requirement.{Requirement}
+use Rattle.wh_base.specs.declared.views.Requirement.TheVariants as requirement
+use Rattle.wh_base.specs.declared.views.Serving.{Serving}
+use Rattle.wh_base.specs.declared.views.Serving.TheVariants.{Fails, Serves}
 
 -- ---- pieces of lines
 
@@ -48,8 +57,8 @@ abbrev pub fields : List (List ℕ) → List ℕ
 fields fs = parted_by 124 fs
 
 -- A row: its values as they print.
-abbrev pub row_text : List Value → List ℕ
-row_text vs = fields (map value_text vs)
+abbrev pub row_text : Version → List Value → List ℕ
+row_text version vs = fields (map (value_text version) vs)
 
 -- A view's point; a missing one is `-`.
 abbrev pub point_text : Option ℕ → List ℕ
@@ -69,12 +78,32 @@ method_text Force = codes "FORCE"
 
 -- The code of a restriction, as F13 or P1.
 abbrev pub code_text : Code → List ℕ
-code_text (code.F n) = codes "F" ++ decimal n
-code_text (code.P n) = codes "P" ++ decimal n
+code_text code.F1 = codes "F1"
+code_text code.F2 = codes "F2"
+code_text code.F3 = codes "F3"
+code_text code.F4 = codes "F4"
+code_text code.F5 = codes "F5"
+code_text code.F6 = codes "F6"
+code_text code.F7 = codes "F7"
+code_text code.F8 = codes "F8"
+code_text code.F9 = codes "F9"
+code_text code.F10 = codes "F10"
+code_text code.F11 = codes "F11"
+code_text code.F12 = codes "F12"
+code_text code.F13 = codes "F13"
+code_text code.P1 = codes "P1"
+code_text code.P2 = codes "P2"
+code_text code.P3 = codes "P3"
+
+-- What a restriction names.
+abbrev pub place_words : Place → List (List ℕ)
+place_words place.View = []
+place_words (place.Table t) = t ∷ []
+place_words (place.Column t c) = t ∷ c ∷ []
 
 -- A restriction with its table and column, where it prints them.
 abbrev pub restricted_text : Restricted → List ℕ
-restricted_text r = words (code_text r.code ∷ r.table ∷ r.column ∷ [])
+restricted_text r = words (code_text r.code ∷ place_words r.place)
 
 -- ---- refusals
 
@@ -117,6 +146,8 @@ refusal_words (FutureScn asked now) = codes "MV-26" ∷ int_text asked ∷ decim
 refusal_words (NotAKey t c) = codes "MV-27" ∷ t ∷ c ∷ []
 refusal_words (StillUsed n) = codes "MV-28" ∷ n ∷ []
 refusal_words OnlyReading = codes "MV-29" ∷ []
+refusal_words (BeneathUnbuilt v) = codes "MV-30" ∷ v ∷ []
+refusal_words (NotNested v) = codes "MV-31" ∷ v ∷ []
 
 -- In a block AT and the number of the statement stand after the code.
 abbrev pub at_words : Option ℕ → List (List ℕ) → List (List ℕ)
@@ -144,6 +175,7 @@ class_text Full = codes "FULL"
 class_text Partial = codes "PARTIAL"
 class_text General = codes "GENERAL"
 class_text JoinBack = codes "JOINBACK"
+class_text Concat = codes "CONCAT"
 
 -- PLAN and BASE; or PLAN, the class, the view with its point, and the tables joined back.
 abbrev pub plan_words : PlanLine → List (List ℕ)
@@ -168,13 +200,17 @@ refreshed_text (Suspended r) = words (codes "SUSPENDED" ∷ restricted_text r �
 abbrev pub view_line_text : ViewLine → List ℕ
 view_line_text l = fields (l.view ∷ refreshed_text l.done ∷ [])
 
+-- A view of a list that was refreshed: its name, the method used, and the number of its entries.
+abbrev pub list_line_text : ListLine → List ℕ
+list_line_text l = fields (l.view ∷ method_text l.method ∷ decimal l.holds ∷ [])
+
 -- A bound of an interval; an empty field where there is none.
-abbrev pub bound_text : Option Value → List ℕ
-bound_text b = option_case b [] value_text
+abbrev pub bound_text : Version → Option Value → List ℕ
+bound_text version b = option_case b [] (value_text version)
 
 -- An interval of stale keys: its lower and its upper bound.
-abbrev pub interval_text : Interval → List ℕ
-interval_text i = fields (bound_text i.lo ∷ bound_text i.hi ∷ [])
+abbrev pub interval_text : Version → Interval → List ℕ
+interval_text version i = fields (bound_text version i.lo ∷ bound_text version i.hi ∷ [])
 
 -- The operation of a log row: insert, update or delete.
 abbrev pub op_text : LogOp → List ℕ
@@ -192,8 +228,8 @@ abbrev pub number_field : Option ℕ → List ℕ
 number_field n = option_case n [] decimal
 
 -- A log row: SCN, sequence number, rowid, operation, side, and the logged values.
-abbrev pub log_row_text : LogRow → List ℕ
-log_row_text r = fields (decimal r.scn ∷ number_field r.seq ∷ number_field r.rowid ∷ op_text r.op ∷ side_text r.side ∷ map value_text r.values)
+abbrev pub log_row_text : Version → LogRow → List ℕ
+log_row_text version r = fields (decimal r.scn ∷ number_field r.seq ∷ number_field r.rowid ∷ op_text r.op ∷ side_text r.side ∷ map (value_text version) r.values)
 
 -- The nine names of EXPLAIN MVIEW, in order.
 abbrev pub explain_names : List (List ℕ)
@@ -209,18 +245,36 @@ explain_names =
     ∷ codes "REWRITE_PCT"
     ∷ []
 
--- Why a name says N: a restriction, or the number of a condition of rewrite.
+-- A requirement of rewrite, as E7.
+abbrev pub requirement_text : Requirement → List ℕ
+requirement_text requirement.E1 = codes "E1"
+requirement_text requirement.E2 = codes "E2"
+requirement_text requirement.E3 = codes "E3"
+requirement_text requirement.E4 = codes "E4"
+requirement_text requirement.E5 = codes "E5"
+requirement_text requirement.E6 = codes "E6"
+requirement_text requirement.E7 = codes "E7"
+requirement_text requirement.E8 = codes "E8"
+requirement_text requirement.E9 = codes "E9"
+
+-- Why a name says N: a restriction, a requirement of rewrite, or that the view is over a view.
 abbrev pub reason_text : Reason → List ℕ
 reason_text (reason.Refresh r) = restricted_text r
-reason_text (reason.Rewrite n) = codes "E" ++ decimal n
+reason_text (reason.Rewrite e) = requirement_text e
+reason_text reason.Nested = codes "MV-31"
 
 -- A name with Y and an empty field, or with N and its reason.
 abbrev pub explain_line : List ℕ × Option Reason → List ℕ
 explain_line p = option_case p.1 (fields (p.0 ∷ codes "Y" ∷ [] ∷ [])) (λ r. fields (p.0 ∷ codes "N" ∷ reason_text r ∷ []))
 
--- A view with its class, or with the first condition of rewrite that fails.
+-- How a view can answer, or the first requirement that fails.
+abbrev pub serving_text : Serving → List ℕ
+serving_text (Serves class) = class_text class
+serving_text (Fails e) = requirement_text e
+
+-- A view with its class, or with the first requirement of rewrite that fails.
 abbrev pub verdict_text : Verdict → List ℕ
-verdict_text v = fields (v.view ∷ option_case v.class (codes "E" ++ decimal v.failed) class_text ∷ [])
+verdict_text v = fields (v.view ∷ serving_text v.serving ∷ [])
 
 -- The number of a declared relation, and the rowid of a row that breaks it.
 abbrev pub broken_text : Broken → List ℕ
@@ -243,34 +297,48 @@ body_words (Explain r) = codes "MVIEW" ∷ r.view ∷ read_words 0 ++ rows_words
 body_words (reply.Rewrite r) = codes "REWRITE" ∷ scn_words r.scn ++ (plan_words r.plan ++ (read_words 0 ++ rows_words (length r.verdicts)))
 body_words (Validate r) = codes "VALIDATED" ∷ r.dimension ∷ scn_words r.scn ++ (read_words r.read ++ rows_words (length r.broken))
 body_words (Refuse r) = codes "REFUSED" ∷ at_words r.at (refusal_words r.code) ++ read_words r.read
+body_words (reply.RefreshList r) =
+    codes "REFRESHED" ∷ codes "LIST" ∷ scn_words r.scn ++ (read_words r.read ++ (codes "VIEWS" ∷ decimal (length r.views) ∷ []))
+body_words reply.Submit = codes "SUBMITTED" ∷ read_words 0
 
 -- The lines after the header.
-abbrev pub lines_after : Reply → List (List ℕ)
-lines_after (Commit r) = map view_line_text r.views
-lines_after (reply.Answer r) = map row_text r.rows
-lines_after (reply.View r) = map interval_text r.intervals ++ map row_text r.rows
-lines_after (reply.Log r) = map log_row_text r.rows
-lines_after (Explain r) = map explain_line (zip explain_names r.lines)
-lines_after (reply.Rewrite r) = map verdict_text r.verdicts
-lines_after (Validate r) = map broken_text r.broken
-lines_after (reply.Catalog r) = []
-lines_after (Purge r) = []
-lines_after (reply.Refresh r) = []
-lines_after (Refuse r) = []
+abbrev pub lines_after : Version → Reply → List (List ℕ)
+lines_after version (Commit r) = map view_line_text r.views
+lines_after version (reply.Answer r) = map (row_text version) r.rows
+lines_after version (reply.View r) = map (interval_text version) r.intervals ++ map (row_text version) r.rows
+lines_after version (reply.Log r) = map (log_row_text version) r.rows
+lines_after version (Explain r) = map explain_line (zip explain_names r.lines)
+lines_after version (reply.Rewrite r) = map verdict_text r.verdicts
+lines_after version (Validate r) = map broken_text r.broken
+lines_after version (reply.Catalog r) = []
+lines_after version (Purge r) = []
+lines_after version (reply.Refresh r) = []
+lines_after version (Refuse r) = []
+lines_after version (reply.RefreshList r) = map list_line_text r.views
+lines_after version reply.Submit = []
 
--- The session and the command, as 2.1.
+-- The session and the command, as 2.1; for the reply of a job JOB and the worker, since it stands under that of its SUBMIT.
 abbrev pub id_text : Id → List ℕ
-id_text id = decimal id.session ++ (46 ∷ decimal id.command)
+id_text id = cond (id.worker == 0) (decimal id.session ++ (46 ∷ decimal id.command)) (codes "JOB " ++ decimal id.worker)
 
 -- The header line, and the lines after it.
-abbrev pub reply_lines : Id → Reply → List (List ℕ)
-reply_lines id r = words (id_text id ∷ body_words r) ∷ lines_after r
+abbrev pub reply_lines : Version → Id → Reply → List (List ℕ)
+reply_lines version id r = words (id_text id ∷ body_words r) ∷ lines_after version r
 
 -- ---- journal and line ends
 
--- The session, the command and the part, as 2.1.1.
+-- The mark of a worker, as @3; none for the session itself.
+abbrev pub worker_text : ℕ → List ℕ
+worker_text w = cond (w == 0) [] (64 ∷ decimal w)
+
+-- The session, the command and the part, as 2.1.1, and the worker that did it, as 2.1.2@3.
 abbrev pub entry_text : Entry → List ℕ
-entry_text e = decimal e.session ++ (46 ∷ decimal e.command ++ (46 ∷ decimal e.part))
+entry_text e = decimal e.session ++ (46 ∷ decimal e.command ++ (46 ∷ decimal e.part ++ worker_text e.worker))
+
+-- What stands before the replies: in the second version a line that says so.
+abbrev pub first_lines : Version → List (List ℕ)
+first_lines One = []
+first_lines Two = codes "mviewdb 2" ∷ []
 
 -- The word `journal` and the entries.
 abbrev pub journal_line : List Entry → List ℕ

@@ -1,3 +1,4 @@
 pub mod Quotients
 pub mod Same
 pub mod Sorting
+pub mod Calendar

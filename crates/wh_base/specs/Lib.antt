@@ -8,3 +8,5 @@ pub mod Parts
 pub mod ValueLaws
 pub mod Words
 pub mod Bytes
+pub mod Days
+pub mod DayTexts

@@ -112,7 +112,7 @@ abbrev pub defs_of : Base → List TableDef
 defs_of base = map (λ t. t.def) base
 
 abbrev pub empty_def : TableDef
-empty_def = record { name = []; columns = []; keys = []; primary = None; foreign = []; part_key = None }
+empty_def = record { name = []; columns = []; keys = []; primary = None; foreign = []; part_key = None; movement = false }
 
 abbrev pub def_at : List TableDef → ℕ → TableDef
 def_at defs n = unwrap_or (slice_get defs n) empty_def

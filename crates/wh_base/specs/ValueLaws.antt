@@ -14,7 +14,7 @@ use Rattle.wh_base.specs.Average.{Average, count_of}
 use Rattle.wh_base.specs.Fraction.{cross_cmp, is_same, fraction_antisymm, fraction_trans, fraction_congr}
 use Rattle.wh_base.specs.Values.{value_cmp, values_cmp, average_cmp, fraction_cmp, kind_rank}
 use Rattle.wh_base.specs.declared.values.Value.{Value}
-use Rattle.wh_base.specs.declared.values.Value.TheVariants.{Null, Num, Text, Ratio}
+use Rattle.wh_base.specs.declared.values.Value.TheVariants.{Day, Null, Num, Text, Ratio}
 
 -- ---- pairs
 
@@ -64,18 +64,21 @@ number_part : Value → ℤ
 number_part (Num n) = n
 number_part (Text t) = pos 0
 number_part (Ratio a) = pos 0
+number_part (Day n) = n
 number_part Null = pos 0
 
 text_part : Value → List ℕ
 text_part (Num n) = []
 text_part (Text t) = t
 text_part (Ratio a) = []
+text_part (Day n) = []
 text_part Null = []
 
 average_part : Value → Average
 average_part (Num n) = record { sum = pos 0; more = 0 }
 average_part (Text t) = record { sum = pos 0; more = 0 }
 average_part (Ratio a) = a
+average_part (Day n) = record { sum = pos 0; more = 0 }
 average_part Null = record { sum = pos 0; more = 0 }
 
 ranked : Value → Value → Ordering
@@ -95,6 +98,7 @@ unfolding ranked number_part text_part average_part
 value_cmp_ranked (Num m) (Num n) = then_nothing (int_cmp m n)
 value_cmp_ranked (Text s) (Text t) = then_nothing (slice_cmp nat_cmp s t)
 value_cmp_ranked (Ratio a) (Ratio b) = refl
+value_cmp_ranked (Day m) (Day n) = then_nothing (int_cmp m n)
 value_cmp_ranked Null Null = refl
 value_cmp_ranked v w = refl
 
@@ -105,6 +109,7 @@ pub value_exact : CmpEqualImpliesEq value_cmp
 value_exact (Num m) (Num n) h = ap Num (exact_signed m n h)
 value_exact (Text s) (Text t) h = ap Text (exact_bytes s t h)
 value_exact (Ratio a) (Ratio b) h = ap Ratio (average_exact a b h)
+value_exact (Day m) (Day n) h = ap Day (exact_signed m n h)
 value_exact Null Null h = refl
 value_exact v w h = cc
 
@@ -136,3 +141,4 @@ hashed Null = fed.u8 0
 hashed (Num n) = fed.i128 n
 hashed (Text t) = fed.slice fed.u8 t
 hashed (Ratio a) = fed.u64 (count_of a)
+hashed (Day n) = fed.i64 n

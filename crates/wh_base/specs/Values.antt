@@ -4,15 +4,18 @@ use Rattle.std.specs.Ordering.{int_cmp, int_eq, is_eq, is_ge, is_gt, is_le, is_l
 use Rattle.std.specs.Prelude.{Bool, List, None, Option, Some, [], cond, decimal, false, flat_map, nat_abs, nat_le, nat_lt, negsuc, ◌^◌, not, pos, suc, true, ℕ, ℤ, ◌&&◌, ◌*ℤ◌, ◌*◌, ◌++◌, ◌+ℤ◌, ◌+◌, ◌-◌, ◌==◌, ◌||◌, ◌∷◌}
 use Rattle.std.specs.declared.cmp.Ordering.{Ordering}
 use Rattle.wh_base.specs.Average.{Average, count_of}
+use Rattle.wh_base.specs.Days.{day_text, is_day}
 use Rattle.wh_base.specs.Fraction.{cross_cmp}
 use Rattle.wh_base.specs.Lists.{option_case, same_text}
 use Rattle.wh_base.specs.declared.values.Interval.{Interval}
 use Rattle.wh_base.specs.declared.values.Literal.{Literal}
-use Rattle.wh_base.specs.declared.values.Literal.TheVariants.{Number, Quoted}
+use Rattle.wh_base.specs.declared.values.Literal.TheVariants.{Dated, Number, Quoted}
 use Rattle.wh_base.specs.declared.values.Op.{Op}
 use Rattle.wh_base.specs.declared.values.Op.TheVariants.{Eq, Ge, Gt, Le, Lt, Ne}
 use Rattle.wh_base.specs.declared.values.Value.{Value}
-use Rattle.wh_base.specs.declared.values.Value.TheVariants.{Null, Num, Ratio, Text}
+use Rattle.wh_base.specs.declared.values.Value.TheVariants.{Day, Null, Num, Ratio, Text}
+use Rattle.wh_base.specs.declared.values.Version.{Version}
+use Rattle.wh_base.specs.declared.values.Version.TheVariants.{One, Two}
 
 -- ---- order
 
@@ -24,18 +27,20 @@ fraction_cmp a b = cross_cmp a.sum (count_of a) b.sum (count_of b)
 abbrev pub average_cmp : Average → Average → Ordering
 average_cmp a b = ordering_then (fraction_cmp a b) (nat_cmp a.more b.more)
 
--- numbers before texts before pairs before NULL
+-- numbers before texts before days before pairs before NULL
 abbrev pub kind_rank : Value → ℕ
 kind_rank (Num n) = 0
 kind_rank (Text t) = 1
-kind_rank (Ratio a) = 2
-kind_rank Null = 3
+kind_rank (Day n) = 2
+kind_rank (Ratio a) = 3
+kind_rank Null = 4
 
--- the order of values: numbers by size, texts by bytes, pairs by their fraction, NULL last
+-- the order of values: numbers by size, texts by bytes, days by their number, pairs by their fraction, NULL last
 abbrev pub value_cmp : Value → Value → Ordering
 value_cmp (Num m) (Num n) = int_cmp m n
 value_cmp (Text s) (Text t) = slice_cmp nat_cmp s t
 value_cmp (Ratio a) (Ratio b) = average_cmp a b
+value_cmp (Day m) (Day n) = int_cmp m n
 value_cmp v w = nat_cmp (kind_rank v) (kind_rank w)
 
 -- ---- sameness
@@ -48,6 +53,7 @@ same_value Null Null = true
 same_value (Num m) (Num n) = int_eq m n
 same_value (Text s) (Text t) = same_text s t
 same_value (Ratio a) (Ratio b) = same_average a b
+same_value (Day m) (Day n) = int_eq m n
 same_value _ _ = false
 
 -- lists of values, item by item from the left
@@ -106,6 +112,7 @@ text_value (b ∷ bs) = Text (b ∷ bs)
 abbrev pub literal_value : Literal → Value
 literal_value (Number n) = Num n
 literal_value (Quoted t) = text_value t
+literal_value (Dated n) = Day n
 
 -- what stands for a value in a row; none is NULL
 abbrev pub given_value : Option Literal → Value
@@ -126,8 +133,14 @@ abbrev pub product_value : Value → Value → Value
 product_value (Num m) (Num n) = Num (m *ℤ n)
 product_value v w = Null
 
+-- the day of a number; a number outside the calendar stays one, which no DATE column holds
+abbrev pub day_value : ℤ → Value
+day_value n = cond (is_day n) (Day n) (Num n)
+
+-- a number, or so many days later
 abbrev pub added_value : Value → ℤ → Value
 added_value (Num m) n = Num (m +ℤ n)
+added_value (Day m) n = day_value (m +ℤ n)
 added_value v n = Null
 
 -- ---- printed form
@@ -140,12 +153,18 @@ int_text (negsuc n) = 45 ∷ decimal (suc n)
 abbrev pub escaped_byte : ℕ → List ℕ
 escaped_byte b = cond ((b == 92) || (b == 124)) (92 ∷ b ∷ []) (b ∷ [])
 
--- nothing for NULL, decimal, the escaped text, or sum/count
-abbrev pub value_text : Value → List ℕ
-value_text Null = []
-value_text (Num n) = int_text n
-value_text (Text t) = flat_map escaped_byte t
-value_text (Ratio a) = int_text a.sum ++ (47 ∷ decimal (count_of a))
+-- a day: YYYY-MM-DD, and its number in the first version
+abbrev pub versioned_day : Version → ℤ → List ℕ
+versioned_day One n = int_text n
+versioned_day Two n = day_text n
+
+-- nothing for NULL, decimal, the escaped text, sum/count, or a day as the version has it
+abbrev pub value_text : Version → Value → List ℕ
+value_text version Null = []
+value_text version (Num n) = int_text n
+value_text version (Text t) = flat_map escaped_byte t
+value_text version (Ratio a) = int_text a.sum ++ (47 ∷ decimal (count_of a))
+value_text version (Day n) = versioned_day version n
 
 -- the parts with the byte between each two
 abbrev pub parted_by : ℕ → List (List ℕ) → List ℕ

@@ -2,8 +2,10 @@
 //! through which base rows are read.
 #![tactic(auto)]
 
+pub mod boxed;
 pub mod columns;
 pub mod copied;
+pub mod day;
 pub mod fraction;
 pub mod logs;
 pub mod pair;
@@ -15,6 +17,7 @@ pub mod seq;
 pub mod shared;
 pub mod statements;
 pub mod tables;
+pub mod tokens;
 pub mod txt;
 pub mod values;
 pub mod views;

@@ -3,7 +3,7 @@ use crate::seq::Seq;
 use crate::statements::Method;
 use crate::txt::Txt;
 use crate::values::{Interval, Rows};
-use crate::views::{Class, Verdict, ViewState};
+use crate::views::{Class, Requirement, Verdict, ViewState};
 
 /// What there may be too many of.
 #[derive(Clone, Copy)]
@@ -15,22 +15,43 @@ pub enum Counted {
     Partitions,
 }
 
-/// A restriction with the names that it prints, empty where it prints none.
+/// A restriction, as it prints.
 #[derive(Drop)]
 pub struct Restricted {
     pub code: Code,
-    pub table: Txt,
-    pub column: Txt,
+    pub place: Place,
 }
 
-/// The codes of the restrictions of a refresh.
+/// What a restriction names: nothing but the view itself, a table, or a column of a table.
+#[derive(Drop)]
+pub enum Place {
+    View,
+    Table(Txt),
+    Column(Txt, Txt),
+}
+
+/// The codes of the restrictions of a refresh: F by its log, P by partitions.
 #[derive(Clone, Copy)]
 pub enum Code {
-    F(u32),
-    P(u32),
+    F1,
+    F2,
+    F3,
+    F4,
+    F5,
+    F6,
+    F7,
+    F8,
+    F9,
+    F10,
+    F11,
+    F12,
+    F13,
+    P1,
+    P2,
+    P3,
 }
 
-/// Why a command is refused: one variant for each code, with its details. README and docs/refusals.md have the codes.
+/// Why a command is refused: one variant for each code, with its details. docs/refusals.md has the codes.
 #[derive(Drop)]
 pub enum Refusal {
     NameTaken(Txt),
@@ -62,6 +83,8 @@ pub enum Refusal {
     NotAKey(Txt, Txt),
     StillUsed(Txt),
     OnlyReading,
+    BeneathUnbuilt(Txt),
+    NotNested(Txt),
 }
 
 /// What a commit did with one of its views.
@@ -127,6 +150,23 @@ pub struct RefreshDone {
     pub holds: u64,
 }
 
+/// What a refresh of a list did with one of its views: the method used, and how many entries the view holds.
+#[derive(Drop)]
+pub struct ListLine {
+    pub view: Txt,
+    pub method: Method,
+    pub holds: u64,
+}
+
+/// The reply to a refresh of a list: the SCN of its begin, how many base rows it read, and its views in the order of the
+/// list.
+#[derive(Drop)]
+pub struct ListDone {
+    pub scn: u64,
+    pub read: u64,
+    pub views: Seq<ListLine>,
+}
+
 /// The reply to SHOW VIEW.
 #[derive(Drop)]
 pub struct ShownView {
@@ -148,11 +188,13 @@ pub struct ShownLog {
     pub rows: Seq<LogRow>,
 }
 
-/// Why a name of EXPLAIN MVIEW says N.
+/// Why a name of EXPLAIN MVIEW says N: a restriction of its refresh, a requirement of rewrite that the view can't meet, or that
+/// the view is over another view.
 #[derive(Drop)]
 pub enum Reason {
     Refresh(Restricted),
-    Rewrite(u32),
+    Rewrite(Requirement),
+    Nested,
 }
 
 /// The nine lines in order, None for Y.
@@ -208,4 +250,6 @@ pub enum Reply {
     Rewrite(ExplainedQuery),
     Validate(Validated),
     Refuse(Refused),
+    RefreshList(ListDone),
+    Submit,
 }

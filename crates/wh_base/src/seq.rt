@@ -83,6 +83,15 @@ impl<T> Seq<T> {
 }
 
 impl<T: Drop> Seq<T> {
+    /// The list of one item, in no more memory than the item takes. An error says that memory ran out, and drops the item.
+    pub fn one(alloc: Global, item: T) -> Result<Seq<T>, AllocError>
+        ensures { IfOk result (λ s. s ≡ item ∷ []) }
+    {
+        let mut items = Vec::with_capacity(alloc, 1)?;
+        items.push(item)?;
+        Seq::from_vec(items)
+    }
+
     /// The items of a `Vec`. Takes no memory; an error, which says that there are 2^32 items or more, drops them.
     pub fn from_vec(items: Vec<T>) -> Result<Seq<T>, AllocError>
         ensures ok { IfOk result (λ s. s ≡ items.items) }

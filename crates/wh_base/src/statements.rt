@@ -1,6 +1,8 @@
+use crate::boxed::Boxed;
 use crate::queries::{RawCondition, RawQuery};
 use crate::seq::Seq;
 use crate::shared::Shared;
+use crate::tokens::Token;
 use crate::txt::Txt;
 use crate::values::Literal;
 
@@ -21,11 +23,11 @@ pub enum Method {
     Force,
 }
 
-/// A SELECT with the text that its tokens are read from.
+/// A SELECT with the tokens that it is read from.
 #[derive(Drop)]
 pub struct Asked {
     pub query: RawQuery,
-    pub text: Txt,
+    pub tokens: Seq<Token>,
 }
 
 /// INSERT: its table, the columns where they are listed, and the rows; `None` in a row is NULL.
@@ -72,11 +74,12 @@ pub struct LoadRows {
     pub rows: Seq<Seq<Txt>>,
 }
 
-/// What a column is declared to hold, as it is written: NUMBER with its digits, or VARCHAR2 with its bytes.
+/// What a column is declared to hold, as it is written: NUMBER with its digits, VARCHAR2 with its bytes, or DATE.
 #[derive(Drop)]
 pub enum RawKind {
     Digits(Option<i128>),
     Bytes(i128),
+    Days,
 }
 
 /// REFERENCES; without a column it is the primary key of the table.
@@ -140,20 +143,41 @@ pub struct Partitioning {
     pub ranges: Seq<NewRange>,
 }
 
-/// CREATE TABLE.
+/// CREATE TABLE; `movement` is ENABLE ROW MOVEMENT.
 #[derive(Drop)]
 pub struct NewTable {
     pub name: Txt,
     pub parts: Seq<TablePart>,
     pub partitioning: Option<Partitioning>,
+    pub movement: bool,
 }
 
-/// What ALTER TABLE does with a partition.
+/// SPLIT PARTITION: its name, the bound between the two new partitions, and their names.
+#[derive(Drop)]
+pub struct SplitPart {
+    pub name: Txt,
+    pub at: Literal,
+    pub lower: Txt,
+    pub upper: Txt,
+}
+
+/// MERGE PARTITIONS: the names of the two, and that of the new one.
+#[derive(Drop)]
+pub struct MergeParts {
+    pub lower: Txt,
+    pub upper: Txt,
+    pub name: Txt,
+}
+
+/// What ALTER TABLE does with partitions, or to let rows move from one to another.
 #[derive(Drop)]
 pub enum PartChange {
     Add(NewRange),
     DropPart(Txt),
     Truncate(Txt),
+    Split(SplitPart),
+    Merge(MergeParts),
+    Movement(bool),
 }
 
 /// ALTER TABLE.
@@ -181,7 +205,7 @@ pub struct NewView {
     pub method: Method,
     pub on_commit: bool,
     pub rewrite: bool,
-    pub asked: Asked,
+    pub asked: Boxed<Asked>,
 }
 
 /// ALTER MATERIALIZED VIEW: ENABLE or DISABLE QUERY REWRITE.
@@ -238,11 +262,13 @@ pub struct NewDimension {
     pub attributes: Seq<NewAttribute>,
 }
 
-/// DBMS_MVIEW.REFRESH of a view; without a method the view's own holds.
+/// DBMS_MVIEW.REFRESH of a view, or of a list of views, of which `more` are those after the first; without a method each
+/// view's own holds.
 #[derive(Drop)]
 pub struct RefreshView {
     pub name: Txt,
     pub method: Option<Method>,
+    pub more: Seq<Txt>,
 }
 
 /// A statement that changes rows; one by itself is a block of one statement.
@@ -257,8 +283,8 @@ pub enum ChangeStatement {
 /// A statement on a table's definition.
 #[derive(Drop)]
 pub enum TableStatement {
-    CreateTable(NewTable),
-    AlterTable(Altered),
+    CreateTable(Boxed<NewTable>),
+    AlterTable(Boxed<Altered>),
 }
 
 /// A statement on a materialized view log, by its table.
@@ -280,7 +306,7 @@ pub enum ViewStatement {
 /// A statement on a dimension, by its name.
 #[derive(Drop)]
 pub enum DimensionStatement {
-    CreateDimension(NewDimension),
+    CreateDimension(Boxed<NewDimension>),
     DropDimension(Txt),
 }
 
@@ -312,7 +338,7 @@ pub enum SessionStatement {
 /// A statement, by what it is about.
 #[derive(Drop)]
 pub enum Statement {
-    Select(Asked),
+    Select(Boxed<Asked>),
     Change(ChangeStatement),
     Table(TableStatement),
     Log(LogStatement),
@@ -321,7 +347,7 @@ pub enum Statement {
     Refresh(RefreshView),
     Purge(PurgeStatement),
     Show(ShowStatement),
-    ExplainQuery(Asked),
+    ExplainQuery(Boxed<Asked>),
     Session(SessionStatement),
 }
 
@@ -331,27 +357,30 @@ pub struct Block {
     pub statements: Seq<Statement>,
 }
 
-/// A command of a session: a block, or any other statement.
+/// A command of a session: a block, any other statement, or SUBMIT of a refresh of one view, which a worker does.
 #[derive(Drop)]
 pub enum Command {
     Block(Block),
     Other(Statement),
+    Submit(Statement),
 }
 
 /// An entry of the journal: a part of a command of a session. Session 0 is the setup; commands and parts are numbered
-/// from 1.
+/// from 1. The worker is 0 where the session does the part itself, and else the one that does it.
 #[derive(Clone, Copy, Debug)]
 pub struct Entry {
     pub session: u32,
     pub command: u32,
     pub part: u32,
+    pub worker: u32,
 }
 
-/// A command of a session by its number, counted from 1.
+/// A command of a session by its number, counted from 1, and the worker that does it as a job, 0 for the session itself.
 #[derive(Clone, Copy, Debug)]
 pub struct Id {
     pub session: u32,
     pub command: u32,
+    pub worker: u32,
 }
 
 /// An entry of the journal with its command beside it. A trace is a list of these.
@@ -368,11 +397,12 @@ pub struct Section {
     pub commands: Seq<Shared<Command>>,
 }
 
-/// A script: its sections, and the sessions whose next part is taken in turn.
+/// A script: its sections, the sessions whose next part is taken in turn, and how many workers do its jobs.
 #[derive(Drop)]
 pub struct Script {
     pub sections: Seq<Section>,
     pub order: Seq<u32>,
+    pub workers: u32,
 }
 
 /// What is wrong with a script.

@@ -2,11 +2,12 @@ use crate::seq::Seq;
 use crate::txt::Txt;
 use crate::values::{Interval, Value};
 
-/// What a column holds: numbers of at most so many digits, or texts of at most so many bytes.
+/// What a column holds: numbers of at most so many digits, texts of at most so many bytes, or days.
 #[derive(Clone, Copy, Debug)]
 pub enum Kind {
     Number(u32),
     Text(u32),
+    Date,
 }
 
 /// A column; `not_null` is true also of a primary key and of a partition key.
@@ -28,7 +29,7 @@ pub struct ForeignDef {
 }
 
 /// A table's definition: its columns, its keys and foreign keys in the order of declaration, its primary key, which is
-/// one of the keys, and the column by which it is partitioned.
+/// one of the keys, the column by which it is partitioned, and whether an update may move a row to another partition.
 #[derive(Drop)]
 pub struct TableDef {
     pub name: Txt,
@@ -37,6 +38,7 @@ pub struct TableDef {
     pub primary: Option<u32>,
     pub foreign: Seq<ForeignDef>,
     pub part_key: Option<u32>,
+    pub movement: bool,
 }
 
 /// A partition: the values below its bound, down to the bound of the partition before it; `None` is no bound. Its

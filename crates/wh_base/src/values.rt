@@ -6,6 +6,7 @@ ghost use Rattle.std.proofs.Common.{ap};
 ghost use Rattle.wh_base.specs.Values.{value_cmp, kind_rank, is_null};
 ghost use Rattle.wh_base.specs.ValueLaws.{value_total, equal_values, hashed};
 
+use crate::day::Day;
 use crate::fraction::compare_pairs;
 use crate::pair::Pair;
 use crate::seq::Seq;
@@ -15,13 +16,14 @@ use std::alloc::{AllocError, Global};
 use std::cmp::Ordering;
 use std::hash::{Hash, Hasher};
 
-/// A value of a row: NULL, a whole number, a text of at least one byte, or what AVG gives.
+/// A value of a row: NULL, a whole number, a text of at least one byte, what AVG gives, or a day.
 #[derive(Debug, Drop)]
 pub enum Value {
     Null,
     Num(i128),
     Text(Txt),
     Ratio(Pair),
+    Day(Day),
 }
 
 /// A literal of a statement, as it is written. A quoted text of no bytes stands for NULL, as in Oracle's SQL.
@@ -29,6 +31,14 @@ pub enum Value {
 pub enum Literal {
     Number(Wide),
     Quoted(Txt),
+    Dated(Day),
+}
+
+/// The version of a transcript. The first prints a day as its number, the second as a date.
+#[derive(Clone, Copy, Debug, PartialEq, Eq)]
+pub enum Version {
+    One,
+    Two,
 }
 
 /// A comparison.
@@ -62,10 +72,12 @@ impl Value {
             Value::Num(n) => Ok(Value::Num(*n)),
             Value::Text(t) => Ok(Value::Text(t.copy(alloc)?)),
             Value::Ratio(p) => Ok(Value::Ratio(*p)),
+            Value::Day(d) => Ok(Value::Day(*d)),
         }
     }
 
-    /// The order of values: numbers by size, then texts by bytes, then averages as fractions and by count, NULL last.
+    /// The order of values: numbers by size, then texts by bytes, then days by their numbers, then averages as fractions
+    /// and by count, NULL last.
     pub fn compare(&self, other: &Value) -> Ordering
         ensures { result ≡ value_cmp self.now other.now }
     {
@@ -73,6 +85,7 @@ impl Value {
             (Value::Num(m), Value::Num(n)) => m.cmp(n),
             (Value::Text(s), Value::Text(t)) => s.cmp(t),
             (Value::Ratio(p), Value::Ratio(q)) => compare_pairs(p, q),
+            (Value::Day(c), Value::Day(d)) => c.number().cmp(&d.number()),
             _ => self.rank().cmp(&other.rank()),
         }
     }
@@ -83,8 +96,9 @@ impl Value {
         match self {
             Value::Num(_) => 0,
             Value::Text(_) => 1,
-            Value::Ratio(_) => 2,
-            Value::Null => 3,
+            Value::Day(_) => 2,
+            Value::Ratio(_) => 3,
+            Value::Null => 4,
         }
     }
 
@@ -97,6 +111,7 @@ impl Value {
             (Value::Num(m), Value::Num(n)) => m == n,
             (Value::Text(s), Value::Text(t)) => s.is(t.as_slice()),
             (Value::Ratio(p), Value::Ratio(q)) => p.is(q),
+            (Value::Day(c), Value::Day(d)) => c.is(*d),
             _ => false,
         }
     }
@@ -158,6 +173,7 @@ impl Hash for Value {
             Value::Num(n) => n.hash(state),
             Value::Text(t) => t.hash(state),
             Value::Ratio(p) => p.count().hash(state),
+            Value::Day(d) => d.number().hash(state),
         }
     }
 }

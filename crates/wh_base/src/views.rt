@@ -4,6 +4,7 @@ use crate::queries::StarQuery;
 use crate::seq::Seq;
 use crate::statements::Method;
 use crate::tables::{TableDef, Touch};
+use crate::tokens::Token;
 use crate::txt::Txt;
 use crate::values::Value;
 
@@ -16,17 +17,19 @@ pub struct ViewEntry {
 
 pub type ViewRows = Seq<ViewEntry>;
 
-/// The tables are in tree order.
+/// A view's definition. `tokens` are those of its query as it is written, and `tables` are in tree order. Over another view
+/// the query is the composed one, over base tables, and `beneath` is the number of the view beneath.
 #[derive(Drop)]
 pub struct ViewDef {
     pub view: u64,
     pub name: Txt,
     pub query: StarQuery,
     pub tables: Seq<TableDef>,
-    pub text: Txt,
+    pub tokens: Seq<Token>,
     pub method: Method,
     pub on_commit: bool,
     pub rewrite: bool,
+    pub beneath: Option<u64>,
 }
 
 #[derive(Drop)]
@@ -81,6 +84,7 @@ pub enum Class {
     Partial,
     General,
     JoinBack,
+    Concat,
 }
 
 /// A table joined back by its column `by` over the available column `source`; `columns` is what it gains.
@@ -93,9 +97,33 @@ pub struct Back {
     pub columns: Seq<u32>,
 }
 
+/// What a view has to meet to answer a query, in the order in which it is told.
+#[derive(Clone, Copy)]
+pub enum Requirement {
+    /// View and query have one root.
+    E1,
+    /// They join the tables that both have in the same way.
+    E2,
+    /// The column by which a table of the query alone is joined is available.
+    E3,
+    /// The tables of the view alone lose no row.
+    E4,
+    /// The query's conditions imply the view's.
+    E5,
+    /// What the view lacks of a table can be joined back.
+    E6,
+    /// The query's aggregates can be computed from the view's.
+    E7,
+    /// The view is as fresh as the session asks.
+    E8,
+    /// The view is built, it and the session have query rewrite enabled, and the query has no AS OF.
+    E9,
+}
+
+/// How far a query's tables can be had from a view: the requirement that fails, where one does, and the tables joined back.
 #[derive(Drop)]
 pub struct Reach {
-    pub failed: u32,
+    pub failed: Option<Requirement>,
     pub back: Seq<Back>,
 }
 
@@ -115,9 +143,16 @@ pub enum Plan {
     View(ViewPlan),
 }
 
+/// Whether a view can answer a query: as this class, or not, with the first requirement that fails.
+#[derive(Clone, Copy)]
+pub enum Serving {
+    Serves(Class),
+    Fails(Requirement),
+}
+
+/// What EXPLAIN REWRITE says of a view.
 #[derive(Drop)]
 pub struct Verdict {
     pub view: Txt,
-    pub class: Option<Class>,
-    pub failed: u32,
+    pub serving: Serving,
 }

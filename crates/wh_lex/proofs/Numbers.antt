@@ -14,9 +14,9 @@ use Rattle.wh_lex.specs.declared.front.Front.{Front}
 use Rattle.wh_lex.specs.declared.front.Front.TheVariants as front
 use Rattle.wh_lex.specs.declared.front.Start.{Start}
 use Rattle.wh_lex.specs.declared.front.Start.TheVariants as starts
-use Rattle.wh_lex.specs.declared.token.Token.{Token}
-use Rattle.wh_lex.specs.declared.token.TokenKind.{TokenKind}
-use Rattle.wh_lex.specs.declared.token.TokenKind.TheVariants as kinds
+use Rattle.wh_base.specs.declared.tokens.Token.{Token}
+use Rattle.wh_base.specs.declared.tokens.TokenKind.{TokenKind}
+use Rattle.wh_base.specs.declared.tokens.TokenKind.TheVariants as kinds
 use Rattle.wh_lex.specs.Tokens.{digits_len, front_of, mark_len, mark_part, number_part, part_of, run_part, start_of, text_of, text_part}
 use Rattle.wh_lex.specs.Lex.{AreSpans, number_fits, token_fits, tokens_of}
 

@@ -4,8 +4,8 @@ use Rattle.std.proofs.Math.ListN.{drop_of_length-le}
 use Rattle.std.proofs.lemmas.List.{drop_more, drop-drop}
 use Rattle.wh_lex.specs.declared.front.Front.{Front}
 use Rattle.wh_lex.specs.declared.front.Front.TheVariants as front
-use Rattle.wh_lex.specs.declared.token.Token.{Token}
-use Rattle.wh_lex.specs.declared.token.TokenKind.{TokenKind}
+use Rattle.wh_base.specs.declared.tokens.Token.{Token}
+use Rattle.wh_base.specs.declared.tokens.TokenKind.{TokenKind}
 use Rattle.wh_lex.specs.declared.lex.LexFault.{LexFault}
 use Rattle.wh_lex.specs.declared.lex.StatementTokens.{StatementTokens}
 use Rattle.wh_lex.specs.Tokens.{front_of}

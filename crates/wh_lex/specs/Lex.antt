@@ -3,9 +3,9 @@ use Rattle.std.specs.List.{list_all}
 use Rattle.std.specs.Prelude.{◌≡◌, ℕ, ◌+◌, ◌-◌, ◌<◌, ◌≤◌, ◌^◌, length, drop, zero, suc, List, [], ◌∷◌, ◌++◌, Bool, true, false, not, cond, codes, bytes_eq, nat_lt, Option, Some, None, option_to_list, Result, Ok, Err}
 use Rattle.wh_base.specs.Lists.{option_case}
 use Rattle.wh_base.specs.Values.{digits_number}
-use Rattle.wh_lex.specs.declared.token.Token.{Token}
-use Rattle.wh_lex.specs.declared.token.TokenKind.{TokenKind}
-use Rattle.wh_lex.specs.declared.token.TokenKind.TheVariants as kinds
+use Rattle.wh_base.specs.declared.tokens.Token.{Token}
+use Rattle.wh_base.specs.declared.tokens.TokenKind.{TokenKind}
+use Rattle.wh_base.specs.declared.tokens.TokenKind.TheVariants as kinds
 use Rattle.wh_lex.specs.declared.lex.StatementTokens.{StatementTokens}
 use Rattle.wh_lex.specs.declared.front.Front.{Front}
 use Rattle.wh_lex.specs.declared.front.Front.TheVariants as front

@@ -1,8 +1,8 @@
 ghost use Rattle.std.specs.Prelude.{◌≡◌, ◌<◌, ◌≤◌, ◌↔◌, length, slice_index, take, drop, IfOk, IfSome, IsTrue};
 ghost use Rattle.wh_lex.specs.Tokens.{is_name_byte, name_len, digits_len, line_len, mark_len, start_of, front_of, name_part, number_part, text_of, text_part, run_part, mark_part, IsWithin};
 
-use crate::token::TokenKind;
 use std::alloc::{AllocError, Global};
+use wh_base::tokens::TokenKind;
 use wh_base::txt::Txt;
 
 /// What stands at the front of the rest of a text, and how many bytes of it follow the first.

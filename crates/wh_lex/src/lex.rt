@@ -3,9 +3,9 @@ ghost use Rattle.std.specs.Prelude.{◌≡◌, ◌++◌, ◌<◌, ◌≤◌, ◌
 ghost use Rattle.wh_lex.specs.Lex.{AreSpans, Gives, IsFaultOf, IsStatement, is_semicolon, statement_at, token_fits, tokens_at, tokens_of};
 
 use crate::front::{Front, read_front};
-use crate::token::{Token, TokenKind};
 use std::alloc::{AllocError, Global};
 use wh_base::seq::Seq;
+use wh_base::tokens::{Token, TokenKind};
 use wh_base::txt::Txt;
 
 /// Why a text has no tokens. A place is counted from 0 in bytes.

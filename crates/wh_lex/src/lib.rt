@@ -3,4 +3,3 @@
 
 pub mod front;
 pub mod lex;
-pub mod token;

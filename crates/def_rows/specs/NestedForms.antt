@@ -1,0 +1,108 @@
+use Rattle.std.specs.Prelude.{Ok, [], codes, refl, ◌∷◌, ◌≡◌}
+use Rattle.def_rows.specs.Lines.{Ordering, Two, chars, digits, front_of, is_utf8, lines_text, output, tokens_of, utf8_valid_len}
+
+-- A view over a view over a view, with conditions on grouped items, aliases, and a table that the definition beneath joins.
+pub three_views :
+    output (Ordering Two) (lines_text (
+    codes "@setup"
+    ∷ codes "CREATE TABLE P (ID NUMBER PRIMARY KEY, CAT VARCHAR2(4));"
+    ∷ codes "CREATE TABLE S (PID NUMBER REFERENCES P (ID), A NUMBER);"
+    ∷ codes "INSERT INTO P VALUES (1,'X'),(2,'Y');"
+    ∷ codes "INSERT INTO S VALUES (1,10),(1,4),(2,20);"
+    ∷ codes "CREATE MATERIALIZED VIEW V AS SELECT P.CAT, S.PID K, MIN(S.A) LO, MAX(S.A) HI, COUNT(S.A) N FROM S JOIN P ON S.PID = P.ID GROUP BY P.CAT, S.PID;"
+    ∷ codes "CREATE MATERIALIZED VIEW W AS SELECT V.CAT C, MIN(LO) LO, MAX(HI) HI, SUM(N) N FROM V WHERE K BETWEEN 1 AND 2 GROUP BY CAT, K;"
+    ∷ codes "CREATE MATERIALIZED VIEW X AS SELECT SUM(N), MIN(LO), MAX(HI), C FROM W WHERE C <> 'Z' GROUP BY C ORDER BY C;"
+    ∷ codes "SHOW VIEW X;"
+    ∷ codes "EXPLAIN MVIEW X;"
+    ∷ codes "INSERT INTO S VALUES (2,30);"
+    ∷ codes "EXECUTE DBMS_MVIEW.REFRESH('X , W,  V');"
+    ∷ codes "SHOW VIEW X;"
+    ∷ codes "@end"
+    ∷ []))
+    ≡ Ok (lines_text (
+    codes "mviewdb 2"
+    ∷ codes "0.1 DONE SCN 1 READ 0"
+    ∷ codes "0.2 DONE SCN 2 READ 0"
+    ∷ codes "0.3 COMMITTED SCN 3 ROWS 2 READ 0 VIEWS 0"
+    ∷ codes "0.4 COMMITTED SCN 4 ROWS 3 READ 0 VIEWS 0"
+    ∷ codes "0.5 DONE SCN 4 READ 5"
+    ∷ codes "0.6 DONE SCN 4 READ 0"
+    ∷ codes "0.7 DONE SCN 4 READ 0"
+    ∷ codes "0.8 VIEW X POINT 4 STATE FRESH REGISTERED NO SUSPENDED NO READ 0 INTERVALS 0 ROWS 2"
+    ∷ codes "1|20|20|Y"
+    ∷ codes "2|4|10|X"
+    ∷ codes "0.9 MVIEW X READ 0 ROWS 9"
+    ∷ codes "REFRESH_COMPLETE|Y|"
+    ∷ codes "REFRESH_FAST_AFTER_INSERT|N|MV-31"
+    ∷ codes "REFRESH_FAST_AFTER_ONETAB_DML|N|MV-31"
+    ∷ codes "REFRESH_FAST_AFTER_ANY_DML|N|MV-31"
+    ∷ codes "REFRESH_FAST_PCT|N|MV-31"
+    ∷ codes "REWRITE_FULL_TEXT_MATCH|N|MV-31"
+    ∷ codes "REWRITE_PARTIAL_TEXT_MATCH|N|MV-31"
+    ∷ codes "REWRITE_GENERAL|N|E9"
+    ∷ codes "REWRITE_PCT|N|E9"
+    ∷ codes "0.10 COMMITTED SCN 5 ROWS 1 READ 0 VIEWS 0"
+    ∷ codes "0.11 REFRESHED LIST SCN 5 READ 6 VIEWS 3"
+    ∷ codes "X|COMPLETE|2"
+    ∷ codes "W|COMPLETE|2"
+    ∷ codes "V|COMPLETE|2"
+    ∷ codes "0.12 VIEW X POINT 5 STATE FRESH REGISTERED NO SUSPENDED NO READ 0 INTERVALS 0 ROWS 2"
+    ∷ codes "2|4|10|X"
+    ∷ codes "2|20|30|Y"
+    ∷ codes "journal 0.1.1 0.2.1 0.3.1 0.4.1 0.5.1 0.6.1 0.7.1 0.8.1 0.9.1 0.10.1 0.11.1 0.11.2 0.12.1"
+    ∷ []))
+unfolding digits utf8_valid_len is_utf8 chars lib.Utf8.encode tokens_of front_of
+three_views = refl
+
+-- What breaks the form of a view over a view is one refusal, whatever it is; with an alias V is no view beneath.
+pub broken_forms :
+    output (Ordering Two) (lines_text (
+    codes "@setup"
+    ∷ codes "CREATE TABLE U (G VARCHAR2(4), H VARCHAR2(4), A NUMBER);"
+    ∷ codes "INSERT INTO U VALUES ('P','x',10),('P','y',5),('Q','x',7);"
+    ∷ codes "CREATE MATERIALIZED VIEW V AS SELECT G, H, SUM(A) SA, COUNT(*) C FROM U GROUP BY G, H;"
+    ∷ codes "CREATE MATERIALIZED VIEW N AS SELECT G FROM V;"
+    ∷ codes "CREATE MATERIALIZED VIEW N AS SELECT G, COUNT(*) FROM V GROUP BY G;"
+    ∷ codes "CREATE MATERIALIZED VIEW N AS SELECT G, SUM(A) FROM V GROUP BY G;"
+    ∷ codes "CREATE MATERIALIZED VIEW N AS SELECT SA, SUM(C) FROM V GROUP BY SA;"
+    ∷ codes "CREATE MATERIALIZED VIEW N AS SELECT H, SUM(C) FROM V GROUP BY G;"
+    ∷ codes "CREATE MATERIALIZED VIEW N AS SELECT G, MIN(SA) FROM V GROUP BY G;"
+    ∷ codes "CREATE MATERIALIZED VIEW N AS SELECT G, SUM(C) FROM V WHERE SA > 1 GROUP BY G;"
+    ∷ codes "CREATE MATERIALIZED VIEW N AS SELECT G, SUM(C) FROM V WHERE G > 1 GROUP BY G;"
+    ∷ codes "CREATE MATERIALIZED VIEW N AS SELECT G, SUM(C) FROM V WHERE G = H GROUP BY G;"
+    ∷ codes "CREATE MATERIALIZED VIEW N AS SELECT G, SUM(C) FROM V GROUP BY G HAVING SUM(C) > 1;"
+    ∷ codes "CREATE MATERIALIZED VIEW N AS SELECT G, SUM(C) FROM V GROUP BY G ORDER BY 3;"
+    ∷ codes "CREATE MATERIALIZED VIEW N AS SELECT U.G, SUM(C) FROM V GROUP BY G;"
+    ∷ codes "CREATE MATERIALIZED VIEW N REFRESH FAST AS SELECT G, SUM(C) FROM V GROUP BY G;"
+    ∷ codes "CREATE MATERIALIZED VIEW N REFRESH ON COMMIT AS SELECT G, SUM(C) FROM V GROUP BY G;"
+    ∷ codes "CREATE MATERIALIZED VIEW N AS SELECT X.G, SUM(C) FROM V X GROUP BY X.G;"
+    ∷ codes "SELECT G FROM V;"
+    ∷ codes "CREATE MATERIALIZED VIEW V AS SELECT G, SUM(C) FROM V GROUP BY G;"
+    ∷ codes "@end"
+    ∷ []))
+    ≡ Ok (lines_text (
+    codes "mviewdb 2"
+    ∷ codes "0.1 DONE SCN 1 READ 0"
+    ∷ codes "0.2 COMMITTED SCN 2 ROWS 3 READ 0 VIEWS 0"
+    ∷ codes "0.3 DONE SCN 2 READ 3"
+    ∷ codes "0.4 REFUSED MV-31 N READ 0"
+    ∷ codes "0.5 REFUSED MV-31 N READ 0"
+    ∷ codes "0.6 REFUSED MV-31 N READ 0"
+    ∷ codes "0.7 REFUSED MV-31 N READ 0"
+    ∷ codes "0.8 REFUSED MV-31 N READ 0"
+    ∷ codes "0.9 REFUSED MV-31 N READ 0"
+    ∷ codes "0.10 REFUSED MV-31 N READ 0"
+    ∷ codes "0.11 REFUSED MV-31 N READ 0"
+    ∷ codes "0.12 REFUSED MV-31 N READ 0"
+    ∷ codes "0.13 REFUSED MV-31 N READ 0"
+    ∷ codes "0.14 REFUSED MV-31 N READ 0"
+    ∷ codes "0.15 REFUSED MV-31 N READ 0"
+    ∷ codes "0.16 REFUSED MV-31 N READ 0"
+    ∷ codes "0.17 REFUSED MV-31 N READ 0"
+    ∷ codes "0.18 REFUSED MV-02 V READ 0"
+    ∷ codes "0.19 REFUSED MV-02 V READ 0"
+    ∷ codes "0.20 REFUSED MV-01 V READ 0"
+    ∷ codes "journal 0.1.1 0.2.1 0.3.1 0.4.1 0.5.1 0.6.1 0.7.1 0.8.1 0.9.1 0.10.1 0.11.1 0.12.1 0.13.1 0.14.1 0.15.1 0.16.1 0.17.1 0.18.1 0.19.1 0.20.1"
+    ∷ []))
+unfolding digits utf8_valid_len is_utf8 chars lib.Utf8.encode tokens_of front_of
+broken_forms = refl
