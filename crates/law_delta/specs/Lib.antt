@@ -1,0 +1,6 @@
+pub mod Deltas
+pub mod Moved
+pub mod ByRowid
+pub mod Masked
+pub mod Restored
+pub mod Laws

@@ -1,0 +1,12 @@
+pub mod Each
+pub mod Booleans
+pub mod Options
+pub mod Lists
+pub mod Numbers
+pub mod Counts
+pub mod Folds
+pub mod Groups
+pub mod Aggregates
+pub mod SameItems
+pub mod Columns
+pub mod Tables

@@ -1,0 +1,5 @@
+pub mod Each
+pub mod Rolled
+pub mod Placed
+pub mod Laws
+pub mod Sample

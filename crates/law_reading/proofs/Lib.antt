@@ -1,0 +1,6 @@
+mod Kept
+mod Rules
+mod Statements
+mod Walk
+mod Scripts
+mod Sections

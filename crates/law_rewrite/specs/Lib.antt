@@ -1,0 +1,10 @@
+pub mod Laws
+pub mod Texts
+pub mod Outside
+pub mod Words
+pub mod Fine
+pub mod Standing
+pub mod Kept
+pub mod Chosen
+pub mod Answered
+pub mod Read

@@ -1,0 +1,9 @@
+mod Rows
+mod Stars
+mod Later
+mod Steady
+mod Clauses
+mod Parts
+mod Passing
+mod Partial
+mod Answer

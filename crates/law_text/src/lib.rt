@@ -1,0 +1,4 @@
+//! Why a view whose text is that of a query can answer the query.
+#![tactic(auto)]
+
+pub mod laws;

@@ -1,0 +1,9 @@
+mod Sizes
+mod Stepping
+mod Switched
+mod Plain
+mod Texts
+mod Chosen
+mod Tuples
+mod Misses
+mod Serving

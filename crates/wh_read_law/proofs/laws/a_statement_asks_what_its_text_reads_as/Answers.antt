@@ -1,5 +1,0 @@
-use Rattle.wh_read_law.proofs.Statements.{statement-reads}
-use Rattle.wh_read_law.proofs.laws.a_statement_asks_what_its_text_reads_as.Goals as goal
-
-pub returns : goal.returns
-returns c = statement-reads c.what_is_kept_reads_as_its_query.ensures

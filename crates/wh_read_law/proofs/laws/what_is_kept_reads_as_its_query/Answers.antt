@@ -1,5 +1,0 @@
-use Rattle.wh_read_law.proofs.Kept.{kept-reads}
-use Rattle.wh_read_law.proofs.laws.what_is_kept_reads_as_its_query.Goals as goal
-
-pub returns : goal.returns
-returns c = kept-reads c.what_is_kept_reads_as_its_tokens.ensures

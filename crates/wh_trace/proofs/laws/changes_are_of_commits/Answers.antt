@@ -1,5 +1,0 @@
-use Rattle.wh_trace.proofs.Untouched.{untouched_laws}
-use Rattle.wh_trace.proofs.laws.changes_are_of_commits.Goals as goal
-
-pub returns : goal.returns
-returns c = untouched_laws

@@ -1,5 +1,0 @@
-use Rattle.wh_trace.proofs.Installing.{install_laws}
-use Rattle.wh_trace.proofs.laws.installs_are_right.Goals as goal
-
-pub returns : goal.returns
-returns c = install_laws

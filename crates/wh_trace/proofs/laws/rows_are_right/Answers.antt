@@ -1,5 +1,0 @@
-use Rattle.wh_trace.proofs.Rowing.{row_laws}
-use Rattle.wh_trace.proofs.laws.rows_are_right.Goals as goal
-
-pub returns : goal.returns
-returns c = row_laws

@@ -1,5 +1,0 @@
-use Rattle.wh_trace.proofs.Traces.{session_laws}
-use Rattle.wh_trace.proofs.laws.sessions_stand_apart.Goals as goal
-
-pub returns : goal.returns
-returns c = session_laws

@@ -1,5 +1,0 @@
-use Rattle.wh_trace.proofs.Pointing.{view_laws}
-use Rattle.wh_trace.proofs.laws.views_stay.Goals as goal
-
-pub returns : goal.returns
-returns c = view_laws
