@@ -1,2 +1,4 @@
+pub mod Commas
 pub mod PlainNames
+pub mod Splits
 pub mod TextNames

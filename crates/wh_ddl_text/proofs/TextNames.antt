@@ -1,18 +1,18 @@
 -- A text that is a name, by the tokens of its first statement.
-use Rattle.std.proofs.Common.{◌≡◌, ℕ, ◌<◌, ◌≤◌, List, [], ◌∷◌, ◌++◌, length, Bool, true, false, Option, Some, None, Result, Ok, Err, cond, refl, ap, sym, ◌∙◌, arith, ◌&&◌, append-nil, subst}
+use Rattle.std.proofs.Common.{◌≡◌, ℕ, ◌≤◌, List, [], ◌∷◌, ◌++◌, length, Bool, true, false, Option, Some, None, Result, Ok, Err, cond, refl, ap, sym, ◌∙◌, arith, ◌&&◌, append-nil, subst}
 use Rattle.std.proofs.Math.ListN.{drop_of_length-le}
 use Rattle.std.proofs.lemmas.Bool.Decides.{nat_tests}
 use Rattle.std.specs.Prelude.{◌==◌, is_none, option_to_list}
-use Rattle.def_grammar.specs.Forms.{name_in, text_tokens, tokens_or_none}
+use Rattle.def_grammar.specs.Forms.{name_in, tokens_or_none}
 use Rattle.def_grammar.specs.Reading.{Rule, is_name, mapped, name, same_token_kind, whole}
-use Rattle.wh_base.specs.Lists.{has_text, is_empty, option_case, where_true}
+use Rattle.wh_base.specs.Lists.{is_empty, option_case, where_true}
 use Rattle.wh_ddl_text.specs.Names.{only_name}
 use Rattle.wh_lex.specs.Lex.{IsClosed, IsStatement, ends_statement, is_semicolon, tokens_at, tokens_of, with_front}
 use Rattle.wh_lex.specs.declared.lex.LexFault.{LexFault}
 use Rattle.wh_lex.specs.declared.lex.StatementTokens.{StatementTokens}
-use Rattle.wh_lex.specs.declared.token.Token.{Token}
-use Rattle.wh_lex.specs.declared.token.TokenKind.{TokenKind}
-use Rattle.wh_lex.specs.declared.token.TokenKind.TheVariants as kinds
+use Rattle.wh_base.specs.declared.tokens.Token.{Token}
+use Rattle.wh_base.specs.declared.tokens.TokenKind.{TokenKind}
+use Rattle.wh_base.specs.declared.tokens.TokenKind.TheVariants as kinds
 
 -- no item, and no length
 pub is_empty-length : {X : Type 0} (xs : List X) → is_empty xs ≡ (length xs == 0)

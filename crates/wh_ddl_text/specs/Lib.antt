@@ -1,3 +1,4 @@
+pub mod NameLists
 pub mod Names
 pub mod Pieces
 pub mod Words

@@ -3,7 +3,7 @@ use Rattle.std.specs.Prelude.{List, None, Option, codes, cond, is_none, length, 
 use Rattle.def_grammar.specs.Reading.{Rule, name, whole, word, ◌or◌}
 use Rattle.wh_base.specs.Lists.{option_case, where_true}
 use Rattle.wh_lex.specs.declared.lex.StatementTokens.{StatementTokens}
-use Rattle.wh_lex.specs.declared.token.Token.{Token}
+use Rattle.wh_base.specs.declared.tokens.Token.{Token}
 
 -- the name that the tokens are, where no semicolon stands and it has so many bytes
 abbrev pub only_name : StatementTokens → ℕ → Option (List ℕ)

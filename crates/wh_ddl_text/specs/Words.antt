@@ -2,7 +2,7 @@
 use Rattle.std.specs.Prelude.{◌≡◌, Bool, Err, List, None, Ok, Option, Result, Some, false, true, ℕ, ⊤}
 use Rattle.def_grammar.specs.Forms.{all_words}
 use Rattle.def_grammar.specs.Reading.{Rule, gives, ◌>>◌, ◌or◌}
-use Rattle.wh_lex.specs.declared.token.Token.{Token}
+use Rattle.wh_base.specs.declared.tokens.Token.{Token}
 use Rattle.wh_query_text.specs.declared.parser.ParseFault.{ParseFault}
 use Rattle.wh_query_text.specs.declared.parser.ParseFault.TheVariants as faults
 

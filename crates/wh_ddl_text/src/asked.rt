@@ -5,7 +5,7 @@ use wh_query_text::parser::{ParseFault, Parser};
 use wh_query_text::query::clauses::Select;
 use wh_query_text::rule::Rule;
 
-/// A query with a text that reads as its tokens.
+/// A query with its tokens.
 pub struct AskedQuery;
 
 impl Rule for AskedQuery {
@@ -16,8 +16,8 @@ impl Rule for AskedQuery {
     fn read(parser: &mut Parser<'_>) -> Result<Asked, ParseFault> {
         let place = parser.place();
         let query = Select::read(parser)?;
-        match parser.spelled_since(&place) {
-            Ok(text) => Ok(Asked { query, text }),
+        match parser.tokens_since(&place) {
+            Ok(tokens) => Ok(Asked { query, tokens }),
             Err(fault) => {
                 drop(query);
                 Err(fault)

@@ -13,7 +13,7 @@ use wh_base::statements::{
 };
 use wh_base::txt::Txt;
 use wh_query_text::parser::{ParseFault, Parser};
-use wh_query_text::rule::{Bracketed, Either, Listed, Many, Rule, with_first};
+use wh_query_text::rule::{Bracketed, Either, Listed, Many, Rule, boxed, with_first};
 
 /// A column with the name of its table.
 pub struct TableColumnRule;
@@ -155,12 +155,14 @@ impl Rule for CreateDimensionRule {
         let levels = Many::<LevelRule>::read(parser)?;
         let hierarchies = Many::<HierarchyRule>::read(parser)?;
         let attributes = Many::<AttributeRule>::read(parser)?;
-        Ok(Statement::Dimension(DimensionStatement::CreateDimension(NewDimension {
+        let dimension = NewDimension {
             name,
             levels,
             hierarchies,
             attributes,
-        })))
+        };
+        let boxed = boxed(parser.alloc(), dimension)?;
+        Ok(Statement::Dimension(DimensionStatement::CreateDimension(boxed)))
     }
 }
 

@@ -5,6 +5,8 @@ pub mod asked;
 pub mod changes;
 pub mod dimensions;
 pub mod logs;
+pub mod name_lists;
+pub mod partitions;
 pub mod refreshes;
 pub mod sessions;
 pub mod statements;

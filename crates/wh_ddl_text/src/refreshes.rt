@@ -1,14 +1,17 @@
-ghost use Rattle.def_grammar.specs.Forms.{method_in, method_letter, method_text, name_in, name_text_token, refresh};
-ghost use Rattle.def_grammar.specs.Reading.{◌>>◌, mark};
+ghost use Rattle.def_grammar.specs.Forms.{method_in, method_letter, method_text, name_in, name_list_token, name_text_token, refresh_of, submit};
+ghost use Rattle.def_grammar.specs.Reading.{◌>>◌, mapped, mark};
 ghost use Rattle.std.specs.List.{list_all};
-ghost use Rattle.std.specs.Prelude.{◌≡◌, ◌<◌, ◌^◌, codes, length, true};
+ghost use Rattle.std.specs.Prelude.{[], ◌≡◌, ◌<◌, ◌^◌, codes, length, true};
 ghost use Rattle.wh_base.specs.Lists.{is_empty};
 ghost use Rattle.wh_ddl_text.specs.Names.{execute_word, only_name};
 ghost use Rattle.wh_lex.specs.Lex.{token_fits};
 ghost use Rattle.wh_query_text.specs.Parse.{Takes};
 ghost use Rattle.wh_query_text.specs.Pieces.{Makes};
 
+use crate::name_lists::list_in;
 use std::alloc::Global;
+use std::marker::PhantomData;
+use wh_base::seq::Seq;
 use wh_base::statements::{Method, RefreshView, Statement};
 use wh_base::txt::Txt;
 use wh_lex::lex::{LexFault, StatementTokens, statement_tokens};
@@ -127,6 +130,37 @@ impl Rule for NameText {
     }
 }
 
+/// A name in quotes, with none behind it.
+pub struct OneName;
+
+impl Rule for OneName {
+    type Output = (Txt, Seq<Txt>);
+
+    ghost reads = { mapped (λ n. (n, [])) name_text_token };
+
+    fn read(parser: &mut Parser<'_>) -> Result<(Txt, Seq<Txt>), ParseFault> {
+        let name = NameText::read(parser)?;
+        Ok((name, Seq::new(parser.alloc())))
+    }
+}
+
+/// A list of names in quotes: the first, and those behind it.
+pub struct NameList;
+
+impl Rule for NameList {
+    type Output = (Txt, Seq<Txt>);
+
+    ghost reads = { name_list_token };
+
+    fn read(parser: &mut Parser<'_>) -> Result<(Txt, Seq<Txt>), ParseFault> {
+        let text = parser.quoted()?;
+        match list_in(parser.alloc(), text.as_slice())? {
+            Some(list) => Ok(list),
+            None => Err(ParseFault::Syntax),
+        }
+    }
+}
+
 // Takes EXECUTE or its short form.
 fn take_execute(parser: &mut Parser<'_>) -> Result<(), ParseFault>
     ensures { Takes result parser.old parser.new (execute_word parser.old) }
@@ -137,13 +171,15 @@ fn take_execute(parser: &mut Parser<'_>) -> Result<(), ParseFault>
     }
 }
 
-/// DBMS_MVIEW.REFRESH.
-pub struct RefreshRule;
+/// DBMS_MVIEW.REFRESH, where this rule reads the name and those behind it.
+pub struct RefreshOf<N> {
+    names: PhantomData<N>,
+}
 
-impl Rule for RefreshRule {
+impl<N: Rule<Output = (Txt, Seq<Txt>)>> Rule for RefreshOf<N> {
     type Output = Statement;
 
-    ghost reads = { refresh };
+    ghost reads = { refresh_of N.reads };
 
     fn read(parser: &mut Parser<'_>) -> Result<Statement, ParseFault> {
         take_execute(parser)?;
@@ -151,9 +187,26 @@ impl Rule for RefreshRule {
         parser.mark(b".")?;
         parser.word(b"REFRESH")?;
         parser.mark(b"(")?;
-        let name = NameText::read(parser)?;
+        let (name, more) = N::read(parser)?;
         let method = Maybe::<MethodPart>::read(parser)?;
         parser.mark(b")")?;
-        Ok(Statement::Refresh(RefreshView { name, method }))
+        Ok(Statement::Refresh(RefreshView { name, method, more }))
+    }
+}
+
+/// DBMS_MVIEW.REFRESH of one view, or of a list of them.
+pub type RefreshRule = RefreshOf<NameList>;
+
+/// SUBMIT of a refresh of one view.
+pub struct SubmitRule;
+
+impl Rule for SubmitRule {
+    type Output = Statement;
+
+    ghost reads = { submit };
+
+    fn read(parser: &mut Parser<'_>) -> Result<Statement, ParseFault> {
+        parser.word(b"SUBMIT")?;
+        RefreshOf::<OneName>::read(parser)
     }
 }

@@ -10,7 +10,7 @@ use crate::asked::AskedQuery;
 use crate::words::take_words;
 use wh_base::statements::{Level, PurgeStatement, SessionStatement, ShowStatement, Statement};
 use wh_query_text::parser::{ParseFault, Parser};
-use wh_query_text::rule::{Either, Rule};
+use wh_query_text::rule::{Either, Rule, boxed};
 
 /// PURGE LOG.
 pub struct PurgeLogRule;
@@ -98,7 +98,7 @@ impl Rule for ExplainQueryRule {
     fn read(parser: &mut Parser<'_>) -> Result<Statement, ParseFault> {
         take_words(parser, ["EXPLAIN", "REWRITE"].as_slice())?;
         let asked = AskedQuery::read(parser)?;
-        Ok(Statement::ExplainQuery(asked))
+        Ok(Statement::ExplainQuery(boxed(parser.alloc(), asked)?))
     }
 }
 

@@ -1,7 +1,8 @@
-ghost use Rattle.def_grammar.specs.Forms.{asked, statement, statement_of};
+ghost use Rattle.def_grammar.specs.Forms.{asked, statement, statement_of, submit_of};
 ghost use Rattle.def_grammar.specs.Reading.{mapped};
 ghost use Rattle.std.specs.List.{list_all};
 ghost use Rattle.std.specs.Prelude.{◌≡◌, true};
+ghost use Rattle.wh_base.specs.Lists.{is_empty, where_true};
 ghost use Rattle.wh_base.specs.declared.statements.Statement.TheVariants as about;
 ghost use Rattle.wh_ddl_text.specs.Words.{GivesWhole};
 ghost use Rattle.wh_lex.specs.Lex.{token_fits};
@@ -11,15 +12,16 @@ use crate::asked::AskedQuery;
 use crate::changes::Change;
 use crate::dimensions::Dimension;
 use crate::logs::Log;
-use crate::refreshes::{RefreshRule, is_at_end};
+use crate::partitions::AlterTableRule;
+use crate::refreshes::{RefreshRule, SubmitRule, is_at_end};
 use crate::sessions::Other;
-use crate::tables::{AlterTableRule, CreateTableRule};
+use crate::tables::CreateTableRule;
 use crate::views::View;
 use std::alloc::Global;
 use wh_base::statements::Statement;
-use wh_lex::token::Token;
+use wh_base::tokens::Token;
 use wh_query_text::parser::{ParseFault, Parser};
-use wh_query_text::rule::{Either, Rule};
+use wh_query_text::rule::{Either, Rule, boxed};
 
 /// A query as a statement.
 pub struct SelectRule;
@@ -31,7 +33,7 @@ impl Rule for SelectRule {
 
     fn read(parser: &mut Parser<'_>) -> Result<Statement, ParseFault> {
         let asked = AskedQuery::read(parser)?;
-        Ok(Statement::Select(asked))
+        Ok(Statement::Select(boxed(parser.alloc(), asked)?))
     }
 }
 
@@ -55,6 +57,18 @@ pub fn read_statement(parser: &mut Parser<'_>) -> Result<Statement, ParseFault>
     AnyStatement::read(parser)
 }
 
+// The statement that was read up to here, where no token is left.
+fn at_end(parser: &Parser<'_>, statement: Statement) -> Result<Statement, ParseFault>
+    ensures { GivesWhole result (where_true (is_empty parser.now) statement) }
+{
+    if is_at_end(parser) {
+        Ok(statement)
+    } else {
+        drop(statement);
+        Err(ParseFault::Syntax)
+    }
+}
+
 /// The statement that all of these tokens are, each number of which is below 10 ^ 38.
 ///
 /// `Syntax` says that they aren't one, and `Memory` that memory ran out.
@@ -64,10 +78,17 @@ pub fn whole_statement(alloc: Global, tokens: &[Token]) -> Result<Statement, Par
 {
     let mut parser = Parser::new(alloc, tokens);
     let statement = read_statement(&mut parser)?;
-    if is_at_end(&parser) {
-        Ok(statement)
-    } else {
-        drop(statement);
-        Err(ParseFault::Syntax)
-    }
+    at_end(&parser, statement)
+}
+
+/// The refresh of one view that all of these tokens submit, each number of which is below 10 ^ 38.
+///
+/// `Syntax` says that they submit none, and `Memory` that memory ran out.
+pub fn whole_submit(alloc: Global, tokens: &[Token]) -> Result<Statement, ParseFault>
+    requires { list_all token_fits tokens.now ≡ true }
+    ensures { GivesWhole result (submit_of tokens.now) }
+{
+    let mut parser = Parser::new(alloc, tokens);
+    let refresh = SubmitRule::read(&mut parser)?;
+    at_end(&parser, refresh)
 }

@@ -1,18 +1,17 @@
-ghost use Rattle.def_grammar.specs.Forms.{all_words, alter_table, column_mark, constraint_name, create_table, foreign_part, key_part, new_column_part, partitioning, range, reference};
+ghost use Rattle.def_grammar.specs.Forms.{all_words, column_mark, constraint_name, create_table, foreign_part, key_part, movement_behind, new_column_part, partitioning, range, reference};
 ghost use Rattle.def_grammar.specs.Reading.{◌>>◌, ◌or◌, gives, mapped, name, word};
-ghost use Rattle.std.specs.Prelude.{[], ◌∷◌, None, codes, false, true};
+ghost use Rattle.std.specs.Prelude.{◌≡◌, [], ◌∷◌, None, Some, codes, false, true};
 ghost use Rattle.wh_base.specs.declared.statements.ColumnMark.TheVariants as marks;
-ghost use Rattle.wh_base.specs.declared.statements.PartChange.TheVariants.{Add, DropPart, Truncate};
 
 use crate::words::{maybe_one_of_both, take_words, takes_all};
 use wh_base::statements::{
-    Altered, ColumnMark, NewColumn, NewForeign, NewKey, NewRange, NewTable, PartChange,
-    Partitioning, Reference, Statement, TablePart, TableStatement,
+    ColumnMark, NewColumn, NewForeign, NewKey, NewRange, NewTable, Partitioning, Reference,
+    Statement, TablePart, TableStatement,
 };
 use wh_base::txt::Txt;
 use wh_base::values::Literal;
 use wh_query_text::parser::{ParseFault, Parser};
-use wh_query_text::rule::{Bracketed, Either, Listed, Many, Maybe, Rule};
+use wh_query_text::rule::{Bracketed, Either, Listed, Many, Maybe, Rule, boxed};
 use wh_query_text::rules::{GivenLiteral, Kind, PlainName};
 
 /// REFERENCES with its table, its column, and whether it is only declared.
@@ -243,6 +242,21 @@ impl Rule for PartitioningRule {
     }
 }
 
+// ENABLE ROW MOVEMENT, which may be left out, and which stands behind partitions alone.
+fn movement_behind(parser: &mut Parser<'_>, partitioning: &Option<Partitioning>) -> bool
+    ensures { movement_behind partitioning.now parser.old ≡ Some (result, parser.new) }
+{
+    match partitioning {
+        None => false,
+        Some(_) => {
+            if takes_all(parser, ["ENABLE", "ROW", "MOVEMENT"].as_slice()) {
+                return true;
+            }
+            false
+        }
+    }
+}
+
 /// CREATE TABLE.
 pub struct CreateTableRule;
 
@@ -256,74 +270,14 @@ impl Rule for CreateTableRule {
         let name = parser.name()?;
         let parts = Bracketed::<Listed<AnyPart>>::read(parser)?;
         let partitioning = Maybe::<PartitioningRule>::read(parser)?;
-        Ok(Statement::Table(TableStatement::CreateTable(NewTable {
+        let movement = movement_behind(parser, &partitioning);
+        let table = NewTable {
             name,
             parts,
             partitioning,
-        })))
-    }
-}
-
-/// ADD PARTITION.
-pub struct AddChange;
-
-impl Rule for AddChange {
-    type Output = PartChange;
-
-    ghost reads = { mapped Add (word (codes "ADD") >> range) };
-
-    fn read(parser: &mut Parser<'_>) -> Result<PartChange, ParseFault> {
-        parser.word(b"ADD")?;
-        let range = Range::read(parser)?;
-        Ok(PartChange::Add(range))
-    }
-}
-
-/// DROP PARTITION.
-pub struct DropChange;
-
-impl Rule for DropChange {
-    type Output = PartChange;
-
-    ghost reads = { mapped DropPart (all_words (codes "DROP" ∷ codes "PARTITION" ∷ []) >> name) };
-
-    fn read(parser: &mut Parser<'_>) -> Result<PartChange, ParseFault> {
-        take_words(parser, ["DROP", "PARTITION"].as_slice())?;
-        let name = parser.name()?;
-        Ok(PartChange::DropPart(name))
-    }
-}
-
-/// TRUNCATE PARTITION.
-pub struct TruncateChange;
-
-impl Rule for TruncateChange {
-    type Output = PartChange;
-
-    ghost reads = { mapped Truncate (all_words (codes "TRUNCATE" ∷ codes "PARTITION" ∷ []) >> name) };
-
-    fn read(parser: &mut Parser<'_>) -> Result<PartChange, ParseFault> {
-        take_words(parser, ["TRUNCATE", "PARTITION"].as_slice())?;
-        let name = parser.name()?;
-        Ok(PartChange::Truncate(name))
-    }
-}
-
-/// What ALTER TABLE does with a partition.
-pub type AnyChange = Either<AddChange, Either<DropChange, TruncateChange>>;
-
-/// ALTER TABLE.
-pub struct AlterTableRule;
-
-impl Rule for AlterTableRule {
-    type Output = Statement;
-
-    ghost reads = { alter_table };
-
-    fn read(parser: &mut Parser<'_>) -> Result<Statement, ParseFault> {
-        take_words(parser, ["ALTER", "TABLE"].as_slice())?;
-        let table = parser.name()?;
-        let change = AnyChange::read(parser)?;
-        Ok(Statement::Table(TableStatement::AlterTable(Altered { table, change })))
+            movement,
+        };
+        let boxed = boxed(parser.alloc(), table)?;
+        Ok(Statement::Table(TableStatement::CreateTable(boxed)))
     }
 }

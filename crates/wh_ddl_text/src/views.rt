@@ -10,7 +10,7 @@ use crate::asked::AskedQuery;
 use crate::words::{maybe_one_of_both, one_of_both, take_words, takes_all};
 use wh_base::statements::{Asked, Method, NewView, Statement, ViewStatement, ViewSwitch};
 use wh_query_text::parser::{ParseFault, Parser};
-use wh_query_text::rule::{Either, Rule};
+use wh_query_text::rule::{Either, Rule, boxed};
 
 /// FAST, COMPLETE or FORCE, which may be left out.
 pub struct ViewMethod;
@@ -153,7 +153,7 @@ impl Rule for CreateViewRule {
         let (method, on_commit) = RefreshClause::read(parser)?;
         let rewrite = Either::<RewriteClause, NoRewrite>::read(parser)?;
         parser.word(b"AS")?;
-        let asked = Definition::read(parser)?;
+        let asked = boxed(parser.alloc(), Definition::read(parser)?)?;
         Ok(Statement::View(ViewStatement::CreateView(NewView {
             name,
             deferred,

@@ -1,5 +1,5 @@
 -- What holds of each block and of each statement that reads from a text holds of each command of the generated script.
-use Rattle.std.proofs.Common.{◌≡◌, ℕ, List, [], ◌∷◌, ◌++◌, Bool, true, false, Option, None, Some, Result, Ok, Err, codes, cond, flat_map, map, option_map, refl}
+use Rattle.std.proofs.Common.{◌≡◌, ℕ, List, [], ◌∷◌, ◌++◌, Bool, true, false, Option, None, Some, codes, cond, flat_map, map, option_map, refl}
 use Rattle.std.proofs.lemmas.List.Elements.{All-append, All-cons, All-nil}
 use Rattle.std.specs.List.{All}
 use Rattle.std.specs.Prelude.{option_to_list}
@@ -11,25 +11,17 @@ use Rattle.wh_base.specs.declared.statements.Command.TheVariants as commands
 use Rattle.wh_base.specs.declared.statements.Section.{Section}
 use Rattle.wh_base.specs.declared.statements.Statement.{Statement}
 use Rattle.wh_base.specs.declared.statements.Statement.TheVariants as about
-use Rattle.wh_lex.specs.Lex.{tokens_of}
-use Rattle.wh_lex.specs.declared.lex.LexFault.{LexFault}
-use Rattle.wh_lex.specs.declared.token.Token.{Token}
-use Rattle.def_grammar.specs.Forms.{statement_of, text_tokens, tokens_or_none}
+use Rattle.wh_base.specs.declared.tokens.Token.{Token}
+use Rattle.def_grammar.specs.Forms.{statement_of, text_tokens}
 use Rattle.def_grammar.specs.Script.{command_by, is_dml}
-use Rattle.def_grammar.specs.Written.{Each, IsSpelled}
 use Rattle.def_output.specs.Generator.{by_text, day_row, generated, insert_text, load_command, sale_row, section, setup_commands, ten_times, view_query}
 
--- P holds of each block, and of each statement that reads from the tokens of a text
+-- P holds of each block, and of each statement that reads from tokens
 pub record HoldsOf (P : Command → Type 0) : Type 0 where
   pub blocks : (b : Block) → P (commands.Block b)
-  pub spelled : (text : List ℕ) (tokens : List Token) → tokens_of text ≡ Ok tokens → Each IsSpelled tokens
-  pub statements : (tokens : List Token) (statement : Statement) → Each IsSpelled tokens → statement_of tokens ≡ Some statement → P (commands.Other statement)
+  pub statements : (tokens : List Token) (statement : Statement) → statement_of tokens ≡ Some statement → P (commands.Other statement)
 
 -- ---- the command of a text
-
-each-spelled : (r : Result (List Token) LexFault) → ((ts : List Token) → r ≡ Ok ts → Each IsSpelled ts) → Each IsSpelled (tokens_or_none r)
-each-spelled (Ok ts) h = h ts refl
-each-spelled (Err e) h = tt
 
 command-holds : (P : Command → Type 0) → HoldsOf P → (changes : Bool) (s : Statement) → P (commands.Other s) → P (cond changes (commands.Block (record { statements = s ∷ [] })) (commands.Other s))
 command-holds P h true s k = h.blocks (record { statements = s ∷ [] })
@@ -42,7 +34,7 @@ read-holds P h (Some s) k = All-cons P (command_by s) [] (command-holds P h (is_
 text-holds : (P : Command → Type 0) → HoldsOf P → (text : List ℕ) → All P (by_text text)
 text-holds P h text =
     read-holds P h (statement_of (text_tokens text))
-    (λ s e. h.statements (text_tokens text) s (each-spelled (tokens_of text) (h.spelled text)) e)
+    (λ s e. h.statements (text_tokens text) s e)
 
 -- ---- lists of commands
 

@@ -55,6 +55,6 @@ counting = repeated 3 (told (codes "SELECT S.PROD, COUNT(*) FROM SALES S GROUP B
 unfoldable pub turns : List ℕ
 turns = ten_times (1 ∷ 2 ∷ 2 ∷ 2 ∷ 3 ∷ [])
 
--- a script of four sections
+-- a script of four sections and no workers
 abbrev pub scripted : Section → Section → Section → Section → List ℕ → Script
-scripted a b c d order = record { sections = a ∷ b ∷ c ∷ d ∷ []; order = order }
+scripted a b c d order = record { sections = a ∷ b ∷ c ∷ d ∷ []; order = order; workers = 0 }

@@ -153,7 +153,7 @@ fn order(alloc: Global) -> Result<Seq<u32>, AllocError>
     Ok(all)
 }
 
-// A script of four sections.
+// A script of four sections and no workers.
 fn scripted(
     alloc: Global,
     setup: Section,
@@ -169,7 +169,11 @@ fn scripted(
     sections.push(first)?;
     sections.push(second)?;
     sections.push(third)?;
-    Ok(Script { sections, order })
+    Ok(Script {
+        sections,
+        order,
+        workers: 0,
+    })
 }
 
 // The script, by the names of its parts.

@@ -11,9 +11,9 @@ use std::alloc::{AllocError, Global};
 use wh_base::seq::Seq;
 use wh_base::shared::Shared;
 use wh_base::statements::{Block, ChangeStatement, Command, Statement};
+use wh_base::tokens::Token;
 use wh_ddl_text::statements::whole_statement;
 use wh_lex::lex::{LexFault, tokens};
-use wh_lex::token::Token;
 use wh_query_text::parser::ParseFault;
 
 /// How many bytes a text has at the most.

@@ -10,7 +10,9 @@ use Rattle.wh_base.specs.declared.statements.Command.{Command}
 use Rattle.wh_base.specs.declared.statements.Entry.{Entry}
 use Rattle.wh_base.specs.declared.statements.Script.{Script}
 use Rattle.wh_base.specs.declared.statements.Section.{Section}
-use Rattle.def_journal.specs.Journal.{is_legal, no_command, not_of_session, of_session, same_entries, same_entry, session_numbers}
+use Rattle.def_journal.specs.Jobs.{accepted_submits, is_own, jobs_are_legal, same_entries, same_entry}
+use Rattle.def_journal.specs.Journal.{is_legal, no_command, not_of_session, of_session, order_of, own_entries, own_turns, session_numbers}
+use Rattle.def_journal.proofs.NoJobs.{all_own_entries, legal_is_own, order_without_jobs}
 use Rattle.wh_order.specs.Laws.{IsNext, Names}
 use Rattle.wh_order.proofs.Listed.{each_append, each_from_all, each_map, each_right, each_weaker}
 
@@ -18,14 +20,14 @@ use Rattle.wh_order.proofs.Listed.{each_append, each_from_all, each_map, each_ri
 
 entry_is : (a b : Entry) → same_entry a b ≡ true → a ≡ b
 entry_is a b h =
-    let parts = and_parts (a.session == b.session) ((a.command == b.command) && (a.part == b.part)) h in
-    let more = and_parts (a.command == b.command) (a.part == b.part) parts.1 in
+    let parts = and_parts (a.session == b.session) ((a.command == b.command) && ((a.part == b.part) && (a.worker == b.worker))) h in
+    let more = and_parts (a.command == b.command) ((a.part == b.part) && (a.worker == b.worker)) parts.1 in
+    let last = and_parts (a.part == b.part) (a.worker == b.worker) more.1 in
     let session : a.session ≡ b.session = eqb-true a.session b.session parts.0 in
     let command : a.command ≡ b.command = eqb-true a.command b.command more.0 in
-    let part : a.part ≡ b.part = eqb-true a.part b.part more.1 in
-    ap (λ n. record { session = n; command = a.command; part = a.part }) session
-    ∙ ap (λ n. record { session = b.session; command = n; part = a.part }) command
-    ∙ ap (λ n. record { session = b.session; command = b.command; part = n }) part
+    let part : a.part ≡ b.part = eqb-true a.part b.part last.0 in
+    let worker : a.worker ≡ b.worker = eqb-true a.worker b.worker last.1 in
+    λ i. record { session = session i; command = command i; part = part i; worker = worker i }
 
 pub entries_are : (xs ys : List Entry) → same_entries xs ys ≡ true → xs ≡ ys
 entries_are [] [] h = refl
@@ -37,8 +39,9 @@ entries_are (x ∷ xs) (y ∷ ys) h =
 
 entry_itself : (x : Entry) → same_entry x x ≡ true
 entry_itself x =
-    and_from (x.session == x.session) ((x.command == x.command) && (x.part == x.part)) (eq-eqb x.session x.session refl)
-    (and_from (x.command == x.command) (x.part == x.part) (eq-eqb x.command x.command refl) (eq-eqb x.part x.part refl))
+    and_from (x.session == x.session) ((x.command == x.command) && ((x.part == x.part) && (x.worker == x.worker))) (eq-eqb x.session x.session refl)
+    (and_from (x.command == x.command) ((x.part == x.part) && (x.worker == x.worker)) (eq-eqb x.command x.command refl)
+    (and_from (x.part == x.part) (x.worker == x.worker) (eq-eqb x.part x.part refl) (eq-eqb x.worker x.worker refl)))
 
 entries_themselves : (xs : List Entry) → same_entries xs xs ≡ true
 entries_themselves [] = refl
@@ -49,25 +52,45 @@ entries_same xs ys is = subst (λ zs. same_entries xs zs ≡ true) is (entries_t
 
 -- ---- a section's own parts
 
-pub each_own : (script : Script) (journal : List Entry) → is_legal script journal ≡ true → AllByRecursion (λ s. of_session s.session journal ≡ section_entries s) script.sections
-each_own script journal legal =
-    let owned : Section → Bool = λ s. same_entries (of_session s.session journal) (section_entries s) in
-    let known : Entry → Bool = λ e. has_number (session_numbers script) e.session in
-    let parts = and_parts (same_entries journal (of_session 0 journal ++ not_of_session 0 journal)) (list_all owned script.sections && list_all known journal) legal in
-    let more = and_parts (list_all owned script.sections) (list_all known journal) parts.1 in
-    each_weaker (λ s. owned s ≡ true) (λ s. of_session s.session journal ≡ section_entries s) (λ s h. entries_are (of_session s.session journal) (section_entries s) h) script.sections (each_from_all owned script.sections more.0)
+-- what a legal journal keeps
+record LegalParts (script : Script) (journal : List Entry) : Type 0 where
+  own : AllByRecursion (λ s. own_entries s.session journal ≡ section_entries s) script.sections
+  known : AllByRecursion (λ e. has_number (session_numbers script) e.session ≡ true) journal
+  jobs : jobs_are_legal script journal ≡ true
 
-pub own_parts : (script : Script) (journal : List Entry) → is_legal script journal ≡ true → All (λ s. of_session s.session journal ≡ section_entries s) script.sections
-own_parts script journal legal = All-from_recursion (λ s. of_session s.session journal ≡ section_entries s) script.sections (each_own script journal legal)
+legal_parts : (script : Script) (journal : List Entry) → is_legal script journal ≡ true → LegalParts script journal
+legal_parts script journal legal =
+    let owned : Section → Bool = λ s. same_entries (own_entries s.session journal) (section_entries s) in
+    let known : Entry → Bool = λ e. has_number (session_numbers script) e.session in
+    let jobs : Bool = jobs_are_legal script journal in
+    let parts = and_parts (same_entries journal (of_session 0 journal ++ not_of_session 0 journal)) (list_all owned script.sections && (list_all known journal && jobs)) legal in
+    let more = and_parts (list_all owned script.sections) (list_all known journal && jobs) parts.1 in
+    let last = and_parts (list_all known journal) jobs more.1 in
+    record {
+      own = each_weaker (λ s. owned s ≡ true) (λ s. own_entries s.session journal ≡ section_entries s) (λ s h. entries_are (own_entries s.session journal) (section_entries s) h) script.sections (each_from_all owned script.sections more.0);
+      known = each_from_all known journal last.0;
+      jobs = last.1;
+    }
+
+pub own_parts : (script : Script) (journal : List Entry) → is_legal script journal ≡ true → All (λ s. own_entries s.session journal ≡ section_entries s) script.sections
+own_parts script journal legal = All-from_recursion (λ s. own_entries s.session journal ≡ section_entries s) script.sections (legal_parts script journal legal).own
 
 -- each entry is of a session that the script has
 pub each_known : (script : Script) (journal : List Entry) → is_legal script journal ≡ true → AllByRecursion (λ e. has_number (session_numbers script) e.session ≡ true) journal
-each_known script journal legal =
-    let owned : Section → Bool = λ s. same_entries (of_session s.session journal) (section_entries s) in
-    let known : Entry → Bool = λ e. has_number (session_numbers script) e.session in
-    let parts = and_parts (same_entries journal (of_session 0 journal ++ not_of_session 0 journal)) (list_all owned script.sections && list_all known journal) legal in
-    let more = and_parts (list_all owned script.sections) (list_all known journal) parts.1 in
-    each_from_all known journal more.1
+each_known script journal legal = (legal_parts script journal legal).known
+
+-- without jobs all entries are own
+pub all_own : (script : Script) (journal : List Entry) → accepted_submits script ≡ [] → is_legal script journal ≡ true → list_all is_own journal ≡ true
+all_own script journal none legal = legal_is_own script journal none (legal_parts script journal legal).jobs
+
+pub each_own : (script : Script) (journal : List Entry) → accepted_submits script ≡ [] → is_legal script journal ≡ true → AllByRecursion (λ s. of_session s.session journal ≡ section_entries s) script.sections
+each_own script journal none legal =
+    let own : list_all is_own journal ≡ true = all_own script journal none legal in
+    each_weaker (λ s. own_entries s.session journal ≡ section_entries s) (λ s. of_session s.session journal ≡ section_entries s) (λ s h. sym (all_own_entries s.session journal own) ∙ h) script.sections (legal_parts script journal legal).own
+
+-- and the whole order is that of the sessions' turns
+pub order_whole : (script : Script) (entries : List Entry) → entries ≡ own_turns script → accepted_submits script ≡ [] → entries ≡ order_of script
+order_whole script entries own none = own ∙ sym (order_without_jobs script none)
 
 -- ---- the entries of a section's commands
 
@@ -76,13 +99,14 @@ counted_from k zero = tt
 counted_from k (suc m) = (((omega arith), (omega arith)), each_weaker (λ n. (suc k ≤ n) × (n < suc k + m)) (λ n. (k ≤ n) × (n < k + suc m)) (λ n h. (omega (arith, h.0), omega (arith, h.1))) (count_from (suc k) m) (counted_from (suc k) m))
 
 names_first : (session n : ℕ) (c : Command) (cs : List Command) → AllByRecursion (Names session n (c ∷ cs)) (command_entries session (n, c))
-names_first session n c cs = each_map (λ k. (1 ≤ k) × (k < 1 + parts_of c)) (Names session n (c ∷ cs)) (λ k. record { session = session; command = n; part = k }) named (count_from 1 (parts_of c)) (counted_from 1 (parts_of c))
+names_first session n c cs = each_map (λ k. (1 ≤ k) × (k < 1 + parts_of c)) (Names session n (c ∷ cs)) (λ k. record { session = session; command = n; part = k; worker = 0 }) named (count_from 1 (parts_of c)) (counted_from 1 (parts_of c))
   where
-    named : (k : ℕ) → (1 ≤ k) × (k < 1 + parts_of c) → Names session n (c ∷ cs) (record { session = session; command = n; part = k })
+    named : (k : ℕ) → (1 ≤ k) × (k < 1 + parts_of c) → Names session n (c ∷ cs) (record { session = session; command = n; part = k; worker = 0 })
     named k h =
         let none : 0 ≡ n - n = omega arith in
         record {
           own = refl;
+          alone = refl;
           command = c;
           at = ap (slice_get (c ∷ cs)) (sym none);
           from = omega arith;
@@ -96,6 +120,7 @@ names_later session n c cs e h =
     let behind : suc (e.command - (n + 1)) ≡ e.command - n = omega (arith, h.from) in
     record {
       own = h.own;
+      alone = h.alone;
       command = h.command;
       at = sym (ap (slice_get (c ∷ cs)) behind) ∙ h.at;
       from = omega (arith, h.from);
@@ -135,11 +160,11 @@ get_seam (x ∷ xs) e ys = get_seam xs e ys
 abbrev command_in : Entry → Option Section → Command
 command_in e found = option_case found no_command (λ s. unwrap_or (slice_get s.commands (e.command - 1)) no_command)
 
-pub next_part : (script : Script) (front rest : List Entry) (e : Entry) → is_legal script (front ++ e ∷ rest) ≡ true → IsNext script front e
-next_part script front rest e legal =
+pub next_part : (script : Script) (front rest : List Entry) (e : Entry) → accepted_submits script ≡ [] → is_legal script (front ++ e ∷ rest) ≡ true → IsNext script front e
+next_part script front rest e none legal =
     let journal : List Entry = front ++ e ∷ rest in
     let known : AllByRecursion (λ x. has_number (session_numbers script) x.session ≡ true) (e ∷ rest) = each_right (λ x. has_number (session_numbers script) x.session ≡ true) front (e ∷ rest) (each_known script journal legal) in
-    let there = section_found journal e.session script.sections known.0 (each_own script journal legal) in
+    let there = section_found journal e.session script.sections known.0 (each_own script journal none legal) in
     let section : Section = there.0 in
     let before : List Entry = of_session e.session front in
     let behind : List Entry = of_session e.session rest in

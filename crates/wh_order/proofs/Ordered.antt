@@ -10,7 +10,9 @@ use Rattle.wh_base.specs.Parts.{section_entries}
 use Rattle.wh_base.specs.declared.statements.Entry.{Entry}
 use Rattle.wh_base.specs.declared.statements.Script.{Script}
 use Rattle.wh_base.specs.declared.statements.Section.{Section}
-use Rattle.def_journal.specs.Journal.{Left, is_legal, is_setup, next_of, not_of_session, of_session, order_of, same_entries, session_numbers, turns, without_next}
+use Rattle.def_journal.specs.Jobs.{accepted_submits, is_own, jobs_are_legal, same_entries}
+use Rattle.def_journal.specs.Journal.{Left, is_legal, is_setup, next_of, not_of_session, of_session, order_of, own_entries, own_turns, session_numbers, turns, without_next}
+use Rattle.def_journal.proofs.NoJobs.{all_own_entries, order_without_jobs, own_is_legal}
 use Rattle.wh_order.specs.Laws.{Names, number_twice}
 use Rattle.wh_order.specs.Left.{begun, setup_entries}
 use Rattle.wh_order.proofs.Listed.{all_from_each, each_append, each_both, each_filter, each_flat, each_map, each_of, each_passed, each_weaker, filter_all, filter_none}
@@ -81,6 +83,10 @@ picked n m (e ∷ es) h =
 
 none_picked : (n m : ℕ) (es : List Entry) → AreOf m es → (m == n) ≡ false → of_session n es ≡ []
 none_picked n m es h other = picked n m es h ∙ ap (λ b. cond b es []) other
+
+-- no worker has a part in it
+section_alone : (s : Section) → AllByRecursion (λ e. is_own e ≡ true) (section_entries s)
+section_alone s = each_weaker (Names s.session 1 s.commands) (λ e. is_own e ≡ true) (λ e h. ap (λ w. w == 0) h.alone) (section_entries s) (each_names s.session 1 s.commands)
 
 section_own : (s : Section) → AreOf s.session (section_entries s)
 section_own s = each_weaker (Names s.session 1 s.commands) (λ e. e.session ≡ s.session) (λ e h. h.own) (section_entries s) (each_names s.session 1 s.commands)
@@ -295,7 +301,7 @@ own_begun ss =
     let others : List Section = filter (λ t. not (is_setup t)) ss in
     each_map (λ s. Unit {0}) (λ p. AreOf p.0 p.1) (λ s. (s.session, section_entries s)) (λ s h. section_own s) others (each_of (λ s. Unit {0}) (λ s. tt) others)
 
-order_parts : (script : Script) (n : ℕ) → AreApart (section_numbers script.sections) → of_session n (order_of script) ≡ sections_in n script.sections
+order_parts : (script : Script) (n : ℕ) → AreApart (section_numbers script.sections) → of_session n (own_turns script) ≡ sections_in n script.sections
 order_parts script n apart =
     let sections : List Section = script.sections in
     let others : List Section = filter (λ s. not (is_setup s)) sections in
@@ -367,22 +373,39 @@ not_true : (b : Bool) → not b ≡ true → b ≡ false
 not_true true h = sym h
 not_true false h = refl
 
-pub legal : (script : Script) → number_twice (session_numbers script) ≡ None → is_legal script (order_of script) ≡ true
-legal script once =
+-- no worker has an entry in the turns of the sessions
+turns_alone : (script : Script) → list_all is_own (own_turns script) ≡ true
+turns_alone script =
+    let alone : Entry → Type 0 = λ e. is_own e ≡ true in
+    let setups : List Section = filter is_setup script.sections in
+    let others : List Section = filter (λ s. not (is_setup s)) script.sections in
+    let front : AllByRecursion alone (setup_entries script.sections) = each_flat (λ s. Unit {0}) alone section_entries (λ s k. section_alone s) setups (each_of (λ s. Unit {0}) (λ s. tt) setups) in
+    let left : AllByRecursion (λ p. AllByRecursion alone p.1) (begun script.sections) = each_map (λ s. Unit {0}) (λ p. AllByRecursion alone p.1) (λ s. (s.session, section_entries s)) (λ s k. section_alone s) others (each_of (λ s. Unit {0}) (λ s. tt) others) in
+    all_from_each is_own (own_turns script) (each_append alone (setup_entries script.sections) (turns script.order (begun script.sections)) front (each_turn alone script.order (begun script.sections) left))
+
+turns_legal : (script : Script) → accepted_submits script ≡ [] → number_twice (session_numbers script) ≡ None → is_legal script (own_turns script) ≡ true
+turns_legal script without once =
     let sections : List Section = script.sections in
-    let journal : List Entry = order_of script in
+    let journal : List Entry = own_turns script in
+    let alone : list_all is_own journal ≡ true = turns_alone script in
+    let jobs : Bool = jobs_are_legal script journal in
     let front : List Entry = setup_entries sections in
     let back : List Entry = turns script.order (begun sections) in
     let others : Section → Bool = λ s. not (is_setup s) in
-    let owned : Section → Bool = λ s. same_entries (of_session s.session journal) (section_entries s) in
+    let owned : Section → Bool = λ s. same_entries (own_entries s.session journal) (section_entries s) in
     let known : Entry → Bool = λ e. has_number (session_numbers script) e.session in
     let apart : AreApart (section_numbers sections) = apart_after [] (session_numbers script) once in
     let setups : AllByRecursion (λ e. (e.session == 0) ≡ true) front = setup_holds (λ n. (n == 0) ≡ true) sections (each_passed is_setup sections) in
     let rest : AllByRecursion (λ e. (e.session == 0) ≡ false) back = turns_hold (λ n. (n == 0) ≡ false) script.order sections (each_weaker (λ s. others s ≡ true) (λ s. is_setup s ≡ false) (λ s h. not_true (is_setup s) h) (filter others sections) (each_passed others sections)) in
     let setup_known : AllByRecursion (λ e. known e ≡ true) front = setup_holds (λ n. has_number (session_numbers script) n ≡ true) sections (each_filter (λ s. has_number (session_numbers script) s.session ≡ true) is_setup sections (each_there sections)) in
     let rest_known : AllByRecursion (λ e. known e ≡ true) back = turns_hold (λ n. has_number (session_numbers script) n ≡ true) script.order sections (each_filter (λ s. has_number (session_numbers script) s.session ≡ true) others sections (each_there sections)) in
-    let own_at : (s : Section) → sections_in s.session sections ≡ section_entries s → owned s ≡ true = λ s h. entries_same (of_session s.session journal) (section_entries s) (order_parts script s.session apart ∙ h) in
+    let own_at : (s : Section) → sections_in s.session sections ≡ section_entries s → owned s ≡ true = λ s h. entries_same (own_entries s.session journal) (section_entries s) (all_own_entries s.session journal alone ∙ order_parts script s.session apart ∙ h) in
     let own : AllByRecursion (λ s. owned s ≡ true) sections = each_weaker (λ s. sections_in s.session sections ≡ section_entries s) (λ s. owned s ≡ true) own_at sections (sections_own sections apart) in
-    and_from (same_entries journal (of_session 0 journal ++ not_of_session 0 journal)) (list_all owned sections && list_all known journal)
+    let all_known : list_all known journal ≡ true = all_from_each known journal (each_append (λ e. known e ≡ true) front back setup_known rest_known) in
+    and_from (same_entries journal (of_session 0 journal ++ not_of_session 0 journal)) (list_all owned sections && (list_all known journal && jobs))
     (entries_same journal (of_session 0 journal ++ not_of_session 0 journal) (sym (front_first front back setups rest)))
-    (and_from (list_all owned sections) (list_all known journal) (all_from_each owned sections own) (all_from_each known journal (each_append (λ e. known e ≡ true) front back setup_known rest_known)))
+    (and_from (list_all owned sections) (list_all known journal && jobs) (all_from_each owned sections own)
+    (and_from (list_all known journal) jobs all_known (own_is_legal script journal without alone)))
+
+pub legal : (script : Script) → accepted_submits script ≡ [] → number_twice (session_numbers script) ≡ None → is_legal script (order_of script) ≡ true
+legal script without once = ap (is_legal script) (order_without_jobs script without) ∙ turns_legal script without once

@@ -13,6 +13,7 @@ some_part : (c : Command) → 0 < parts_of c
 some_part (commands.Block b) = omega arith
 some_part (commands.Other (about.Refresh r)) = omega arith
 some_part (commands.Other s) = omega arith
+some_part (commands.Submit s) = omega arith
 
 pub within_first : (cs : List Command) → IsWithin 0 cs
 within_first [] = refl
@@ -21,7 +22,7 @@ within_first (c ∷ cs) = some_part c
 -- ---- the parts of the first command
 
 abbrev part_of : ℕ → ℕ → ℕ → Entry
-part_of session n k = record { session = session; command = n; part = k }
+part_of session n k = record { session = session; command = n; part = k; worker = 0 }
 
 drop_counted : (f : ℕ → Entry) (start k m : ℕ) (more : List Entry) → k < m → drop k (map f (count_from start m) ++ more) ≡ f (start + k) ∷ drop (suc k) (map f (count_from start m) ++ more)
 drop_counted f start k zero more low = absurd (none low)
@@ -44,26 +45,26 @@ empty_drops zero es is = is
 empty_drops (suc k) es is = ap (drop (suc k)) is
 
 -- the next part, and those behind it
-left_step : (session taken parts : ℕ) (c : Command) (cs : List Command) → parts < parts_of c → left_of session taken parts (c ∷ cs) ≡ record { session = session; command = taken + 1; part = parts + 1 } ∷ left_of session taken (parts + 1) (c ∷ cs)
+left_step : (session taken parts : ℕ) (c : Command) (cs : List Command) → parts < parts_of c → left_of session taken parts (c ∷ cs) ≡ record { session = session; command = taken + 1; part = parts + 1; worker = 0 } ∷ left_of session taken (parts + 1) (c ∷ cs)
 left_step session taken parts c cs low =
     let more : List Entry = flat_map (command_entries session) (enumerate_from (taken + 1 + 1) cs) in
-    let all : List Entry = map (λ part. record { session = session; command = taken + 1; part = part }) (count_from 1 (parts_of c)) ++ more in
+    let all : List Entry = map (λ part. record { session = session; command = taken + 1; part = part; worker = 0 }) (count_from 1 (parts_of c)) ++ more in
     let first : 1 + parts ≡ parts + 1 = omega arith in
     let next : suc parts ≡ parts + 1 = omega arith in
-    drop_counted (λ part. record { session = session; command = taken + 1; part = part }) 1 parts (parts_of c) more low
+    drop_counted (λ part. record { session = session; command = taken + 1; part = part; worker = 0 }) 1 parts (parts_of c) more low
     ∙ ap (λ k. part_of session (taken + 1) k ∷ drop (suc parts) all) first
     ∙ ap (λ k. part_of session (taken + 1) (parts + 1) ∷ drop k all) next
 
 -- a command is done
 left_behind : (session taken : ℕ) (c : Command) (cs : List Command) → left_of session taken (parts_of c) (c ∷ cs) ≡ left_of session (taken + 1) 0 cs
-left_behind session taken c cs = drop_all (λ part. record { session = session; command = taken + 1; part = part }) 1 (parts_of c) (flat_map (command_entries session) (enumerate_from (taken + 1 + 1) cs))
+left_behind session taken c cs = drop_all (λ part. record { session = session; command = taken + 1; part = part; worker = 0 }) 1 (parts_of c) (flat_map (command_entries session) (enumerate_from (taken + 1 + 1) cs))
 
 -- ---- what the calls of a cursor say
 
 pub left_none : (session taken parts : ℕ) (cs : List Command) → cs ≡ [] → [] ≡ take 1 (left_of session taken parts cs)
 left_none session taken parts cs is = sym (ap (take 1) (empty_drops parts (flat_map (command_entries session) (enumerate_from (taken + 1) cs)) (ap (λ ds. flat_map (command_entries session) (enumerate_from (taken + 1) ds)) is)))
 
-pub left_first : (session taken parts : ℕ) (cs : List Command) → (cs ≡ [] → ⊥) → IsWithin parts cs → record { session = session; command = taken + 1; part = parts + 1 } ∷ [] ≡ take 1 (left_of session taken parts cs)
+pub left_first : (session taken parts : ℕ) (cs : List Command) → (cs ≡ [] → ⊥) → IsWithin parts cs → record { session = session; command = taken + 1; part = parts + 1; worker = 0 } ∷ [] ≡ take 1 (left_of session taken parts cs)
 left_first session taken parts [] some within = absurd (some refl)
 left_first session taken parts (c ∷ cs) some within = sym (ap (take 1) (left_step session taken parts c cs within))
 

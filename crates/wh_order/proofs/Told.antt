@@ -14,9 +14,10 @@ use Rattle.wh_base.specs.declared.statements.Event.{Event}
 use Rattle.wh_base.specs.declared.statements.Id.{Id}
 use Rattle.wh_base.specs.declared.statements.Script.{Script}
 use Rattle.wh_base.specs.declared.statements.Section.{Section}
+use Rattle.wh_base.specs.declared.values.Version.{Version}
 use Rattle.def_journal.specs.Journal.{Told, event_step, given_by, of_session, replies_from, replies_of, reply_to, state_after, trace_of}
 use Rattle.def_journal.specs.State.{State, empty_state}
-use Rattle.def_transcript.specs.Texts.{journal_line, lines_text, reply_lines}
+use Rattle.def_transcript.specs.Texts.{first_lines, journal_line, lines_text, reply_lines}
 use Rattle.def_transcript.specs.Transcript.{lines_of, same_id, section_ids, transcript}
 use Rattle.wh_order.specs.Laws.{session_told, told_in, told_text}
 use Rattle.wh_order.proofs.Listed.{each_append, each_map, each_of, each_weaker, filter_all, filter_none}
@@ -50,7 +51,7 @@ told_in_of n trace e =
 -- ---- replies beside the entries that they are for
 
 abbrev id_of : Entry → Id
-id_of e = record { session = e.session; command = e.command }
+id_of e = record { session = e.session; command = e.command; worker = e.worker }
 
 -- the reply of an entry, where it gives one
 abbrev answer_of : Entry → Option Reply → List Told
@@ -115,9 +116,9 @@ answers_hold P (e ∷ es) ts h k = subst (AllByRecursion (λ t. P t.id)) (sym h.
 
 -- ---- the replies to the commands of a session
 
-module _ (session : ℕ) where
+module _ (version : Version) (session : ℕ) where
   abbrev named : ℕ → Id
-  named n = record { session = session; command = n }
+  named n = record { session = session; command = n; worker = 0 }
 
   -- the name of each is this one
   abbrev AreAt : ℕ → List Entry → Type 0
@@ -128,7 +129,7 @@ module _ (session : ℕ) where
   AreFrom n i = n ≤ i.command
 
   command_at : (n : ℕ) (c : Command) → AreAt n (command_entries session (n, c))
-  command_at n c = each_map (λ k. Unit {0}) (λ e. id_of e ≡ named n) (λ k. record { session = session; command = n; part = k }) (λ k h. refl) (count_from 1 (parts_of c)) (each_of (λ k. Unit {0}) (λ k. tt) (count_from 1 (parts_of c)))
+  command_at n c = each_map (λ k. Unit {0}) (λ e. id_of e ≡ named n) (λ k. record { session = session; command = n; part = k; worker = 0 }) (λ k h. refl) (count_from 1 (parts_of c)) (each_of (λ k. Unit {0}) (λ k. tt) (count_from 1 (parts_of c)))
 
   commands_from : (n : ℕ) (cs : List Command) → AllByRecursion (λ e. AreFrom n (id_of e)) (flat_map (command_entries session) (enumerate_from n cs))
   commands_from n [] = tt
@@ -138,10 +139,10 @@ module _ (session : ℕ) where
       each_append (λ e. n ≤ e.command) (command_entries session (n, c)) rest here later
     where
       here : AllByRecursion (λ e. n ≤ e.command) (command_entries session (n, c))
-      here = each_map (λ k. Unit {0}) (λ e. n ≤ e.command) (λ k. record { session = session; command = n; part = k }) (λ k h. omega arith) (count_from 1 (parts_of c)) (each_of (λ k. Unit {0}) (λ k. tt) (count_from 1 (parts_of c)))
+      here = each_map (λ k. Unit {0}) (λ e. n ≤ e.command) (λ k. record { session = session; command = n; part = k; worker = 0 }) (λ k h. omega arith) (count_from 1 (parts_of c)) (each_of (λ k. Unit {0}) (λ k. tt) (count_from 1 (parts_of c)))
 
   abbrev lines : Told → List (List ℕ)
-  lines t = reply_lines t.id t.reply
+  lines t = reply_lines version t.id t.reply
 
   -- for the command with this number
   abbrev is_named : ℕ → Told → Bool
@@ -157,12 +158,12 @@ module _ (session : ℕ) where
       no_way same = omega (arith, same, later)
 
   -- replies to an earlier command don't count
-  skip : (n j m : ℕ) (us vs : List Told) → n < j → AllByRecursion (λ t. t.id ≡ named n) us → flat_map (lines_of (us ++ vs)) (map named (count_from j m)) ≡ flat_map (lines_of vs) (map named (count_from j m))
+  skip : (n j m : ℕ) (us vs : List Told) → n < j → AllByRecursion (λ t. t.id ≡ named n) us → flat_map (lines_of version (us ++ vs)) (map named (count_from j m)) ≡ flat_map (lines_of version vs) (map named (count_from j m))
   skip n j zero us vs low at = refl
   skip n j (suc m) us vs low at =
       let none : filter (is_named j) us ≡ [] = filter_none (is_named j) us (each_weaker (λ t. t.id ≡ named n) (λ t. is_named j t ≡ false) other us at) in
       let here : filter (is_named j) (us ++ vs) ≡ filter (is_named j) vs = filter-append (is_named j) us vs ∙ ap (λ ts. ts ++ filter (is_named j) vs) none in
-      ap (λ ts. flat_map lines ts ++ flat_map (lines_of (us ++ vs)) (map named (count_from (suc j) m))) here
+      ap (λ ts. flat_map lines ts ++ flat_map (lines_of version (us ++ vs)) (map named (count_from (suc j) m))) here
       ∙ ap (λ ls. flat_map lines (filter (is_named j) vs) ++ ls) (skip n (suc j) m us vs (omega (arith, low)) at)
     where
       apart : n ≡ j → ⊥
@@ -172,7 +173,7 @@ module _ (session : ℕ) where
       other t is = ap (λ i. same_id i (named j)) is ∙ and_right (session == session) (n == j) (ne_eqb n j apart)
 
   -- the replies command by command are the replies in their order
-  lines_are : (n : ℕ) (cs : List Command) (ts : List Told) → Answer (flat_map (command_entries session) (enumerate_from n cs)) ts → flat_map (lines_of ts) (map named (count_from n (length cs))) ≡ flat_map lines ts
+  lines_are : (n : ℕ) (cs : List Command) (ts : List Told) → Answer (flat_map (command_entries session) (enumerate_from n cs)) ts → flat_map (lines_of version ts) (map named (count_from n (length cs))) ≡ flat_map lines ts
   lines_are n [] ts h = sym (ap (flat_map lines) h)
   lines_are n (c ∷ cs) ts h =
       let parts = answer_apart (command_entries session (n, c)) (flat_map (command_entries session) (enumerate_from (n + 1) cs)) ts h in
@@ -185,9 +186,9 @@ module _ (session : ℕ) where
       let here : filter (is_named n) (us ++ vs) ≡ us = filter-append (is_named n) us vs ∙ ap (λ xs. xs ++ filter (is_named n) vs) front ∙ ap (λ xs. us ++ xs) back ∙ append-nil us in
       let next : suc n ≡ n + 1 = omega arith in
       let low : n < suc n = omega arith in
-      let later : flat_map (lines_of vs) (map named (count_from (suc n) (length cs))) ≡ flat_map lines vs = ap (λ k. flat_map (lines_of vs) (map named (count_from k (length cs)))) next ∙ lines_are (n + 1) cs vs parts.4 in
-      ap (λ xs. flat_map (lines_of xs) (map named (count_from n (suc (length cs))))) parts.2
-      ∙ ap (λ xs. flat_map lines xs ++ flat_map (lines_of (us ++ vs)) (map named (count_from (suc n) (length cs)))) here
+      let later : flat_map (lines_of version vs) (map named (count_from (suc n) (length cs))) ≡ flat_map lines vs = ap (λ k. flat_map (lines_of version vs) (map named (count_from k (length cs)))) next ∙ lines_are (n + 1) cs vs parts.4 in
+      ap (λ xs. flat_map (lines_of version xs) (map named (count_from n (suc (length cs))))) parts.2
+      ∙ ap (λ xs. flat_map lines xs ++ flat_map (lines_of version (us ++ vs)) (map named (count_from (suc n) (length cs)))) here
       ∙ ap (λ ls. flat_map lines us ++ ls) (skip n (suc n) (length cs) us vs low at ∙ later)
       ∙ sym (flat_map-append lines us vs)
       ∙ ap (flat_map lines) (sym parts.2)
@@ -206,30 +207,39 @@ module _ (session : ℕ) where
           let other : is_named n t ≡ false = and_left (t.id.session == session) (t.id.command == n) is in
           ap (filter (is_named n)) gone ∙ rest ∙ sym (ap (λ c. cond c (t ∷ filter (is_named n) ts) (filter (is_named n) ts)) other)
 
-  all_in_session : (ns : List ℕ) (ts : List Told) → flat_map (lines_of ts) (map named ns) ≡ flat_map (lines_of (told_in session ts)) (map named ns)
+  all_in_session : (ns : List ℕ) (ts : List Told) → flat_map (lines_of version ts) (map named ns) ≡ flat_map (lines_of version (told_in session ts)) (map named ns)
   all_in_session [] ts = refl
   all_in_session (n ∷ ns) ts =
-      ap (λ us. flat_map lines us ++ flat_map (lines_of ts) (map named ns)) (sym (in_session n ts))
-      ∙ ap (λ ls. lines_of (told_in session ts) (named n) ++ ls) (all_in_session ns ts)
+      ap (λ us. flat_map lines us ++ flat_map (lines_of version ts) (map named ns)) (sym (in_session n ts))
+      ∙ ap (λ ls. lines_of version (told_in session ts) (named n) ++ ls) (all_in_session ns ts)
 
 -- ---- the transcript
 
-section_lines : (script : Script) (journal : List Entry) (s : Section) → of_session s.session journal ≡ section_entries s → flat_map (lines_of (replies_of (trace_of script journal))) (section_ids s) ≡ flat_map (lines s.session) (session_told script journal s)
-section_lines script journal s own =
-    let given : List Told = replies_of (trace_of script journal) in
-    let answered : Answer (section_entries s) (told_in s.session given) = subst (λ es. Answer es (told_in s.session given)) own (session_answered s.session journal given (journal_answered script journal)) in
-    all_in_session s.session (count_from 1 (length s.commands)) given ∙ lines_are s.session 1 s.commands (told_in s.session given) answered
+module _ (version : Version) (script : Script) (journal : List Entry) where
+  abbrev given : List Told
+  given = replies_of (trace_of script journal)
 
-sections_text : (script : Script) (journal : List Entry) (sections : List Section) → AllByRecursion (λ s. of_session s.session journal ≡ section_entries s) sections → lines_text (flat_map (lines_of (replies_of (trace_of script journal))) (flat_map section_ids sections)) ≡ flat_map (λ s. told_text (session_told script journal s)) sections
-sections_text script journal [] own = refl
-sections_text script journal (s ∷ ss) own =
-    let of : Id → List (List ℕ) = lines_of (replies_of (trace_of script journal)) in
-    ap lines_text (flat_map-append of (section_ids s) (flat_map section_ids ss))
-    ∙ flat_map-append (λ l. l ++ 10 ∷ []) (flat_map of (section_ids s)) (flat_map of (flat_map section_ids ss))
-    ∙ ap (λ ls. lines_text ls ++ lines_text (flat_map of (flat_map section_ids ss))) (section_lines script journal s own.0)
-    ∙ ap (λ text. told_text (session_told script journal s) ++ text) (sections_text script journal ss own.1)
+  -- the lines of the replies to a command
+  abbrev told_to : Id → List (List ℕ)
+  told_to id = lines_of version given id
 
-pub by_sections : (script : Script) (journal : List Entry) → AllByRecursion (λ s. of_session s.session journal ≡ section_entries s) script.sections → transcript script journal ≡ flat_map (λ s. told_text (session_told script journal s)) script.sections ++ lines_text (journal_line journal ∷ [])
-by_sections script journal own =
-    flat_map-append (λ l. l ++ 10 ∷ []) (flat_map (lines_of (replies_of (trace_of script journal))) (flat_map section_ids script.sections)) (journal_line journal ∷ [])
-    ∙ ap (λ text. text ++ lines_text (journal_line journal ∷ [])) (sections_text script journal script.sections own)
+  section_lines : (s : Section) → of_session s.session journal ≡ section_entries s → flat_map told_to (section_ids s) ≡ flat_map (lines version s.session) (session_told script journal s)
+  section_lines s own =
+      let answered : Answer (section_entries s) (told_in s.session given) = subst (λ es. Answer es (told_in s.session given)) own (session_answered s.session journal given (journal_answered script journal)) in
+      all_in_session version s.session (count_from 1 (length s.commands)) given ∙ lines_are version s.session 1 s.commands (told_in s.session given) answered
+
+  sections_text : (sections : List Section) → AllByRecursion (λ s. of_session s.session journal ≡ section_entries s) sections → lines_text (flat_map told_to (flat_map section_ids sections)) ≡ flat_map (λ s. told_text version (session_told script journal s)) sections
+  sections_text [] own = refl
+  sections_text (s ∷ ss) own =
+      ap lines_text (flat_map-append told_to (section_ids s) (flat_map section_ids ss))
+      ∙ flat_map-append (λ l. l ++ 10 ∷ []) (flat_map told_to (section_ids s)) (flat_map told_to (flat_map section_ids ss))
+      ∙ ap (λ ls. lines_text ls ++ lines_text (flat_map told_to (flat_map section_ids ss))) (section_lines s own.0)
+      ∙ ap (λ text. told_text version (session_told script journal s) ++ text) (sections_text ss own.1)
+
+  pub by_sections : AllByRecursion (λ s. of_session s.session journal ≡ section_entries s) script.sections → transcript version script journal ≡ lines_text (first_lines version) ++ (flat_map (λ s. told_text version (session_told script journal s)) script.sections ++ lines_text (journal_line journal ∷ []))
+  by_sections own =
+      let told : List (List ℕ) = flat_map told_to (flat_map section_ids script.sections) in
+      let first : List ℕ = lines_text (first_lines version) in
+      flat_map-append (λ l. l ++ 10 ∷ []) (first_lines version) (told ++ journal_line journal ∷ [])
+      ∙ ap (λ text. first ++ text) (flat_map-append (λ l. l ++ 10 ∷ []) told (journal_line journal ∷ []))
+      ∙ ap (λ text. first ++ (text ++ lines_text (journal_line journal ∷ []))) (sections_text script.sections own)

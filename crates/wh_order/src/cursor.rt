@@ -69,6 +69,7 @@ impl<'a> Cursor<'a> {
             session: self.session,
             command: self.taken + 1,
             part: self.parts + 1,
+            worker: 0,
         })
     }
 

@@ -1,5 +1,6 @@
 ghost use Rattle.std.specs.Prelude.{◌≡◌, ◌++◌, [], IfOk, OnOk, filter, flat_map, map, option_to_list};
-ghost use Rattle.def_journal.specs.Journal.{is_setup, next_of, order_of, turns, without_next};
+ghost use Rattle.def_journal.specs.Jobs.{accepted_submits};
+ghost use Rattle.def_journal.specs.Journal.{is_setup, next_of, order_of, own_turns, turns, without_next};
 ghost use Rattle.wh_base.specs.Parts.{section_entries};
 ghost use Rattle.wh_order.specs.Left.{begun, passed_of, setup_entries};
 
@@ -8,13 +9,15 @@ use std::alloc::{AllocError, Global};
 use wh_base::seq::Seq;
 use wh_base::statements::{Entry, Script, Section};
 
-/// The journal of a script in its own order: the parts of the setup, then one part for each number of `@order`, the next
-/// of that session, and then what is left, session by session. Sessions and `@order` are this project's own.
+/// The entries that a script's sessions make in its own order: the parts of the setup, then one part for each number of
+/// `@order`, the next of that session, and then what is left, session by session. Where no SUBMIT of the script is accepted,
+/// and so no worker has anything to do, these are its whole journal. Sessions and `@order` are this project's own.
 ///
 /// It is linear in the sections and their parts, and looks at each session at most twice for each number of `@order`. An
 /// error says that memory ran out.
 pub fn order_of(alloc: Global, script: &Script) -> Result<Seq<Entry>, AllocError>
-    ensures { IfOk result (λ entries. entries ≡ order_of script.now) }
+    ensures own { IfOk result (λ entries. entries ≡ own_turns script.now) }
+    ensures whole { IfOk result (λ entries. accepted_submits script.now ≡ [] → entries ≡ order_of script.now) }
 {
     let mut journal = setup_of(alloc, script.sections.as_slice())?;
     let mut left = sessions_of(alloc, script.sections.as_slice())?;

@@ -4,7 +4,7 @@ use Rattle.wh_base.specs.Lists.{is_empty, option_case, where_true}
 use Rattle.wh_base.specs.declared.queries.RawQuery.{RawQuery}
 use Rattle.wh_lex.specs.Lex.{tokens_of}
 use Rattle.wh_lex.specs.declared.lex.LexFault.{LexFault}
-use Rattle.wh_lex.specs.declared.token.Token.{Token}
+use Rattle.wh_base.specs.declared.tokens.Token.{Token}
 use Rattle.def_grammar.specs.Canonical.{laid, query_text, query_tokens}
 use Rattle.def_grammar.specs.Forms.{tokens_or_none}
 use Rattle.def_grammar.specs.Query.{select}

@@ -4,8 +4,8 @@ use Rattle.std.proofs.lemmas.List.{length-append}
 use Rattle.std.proofs.lemmas.Slice.Eq.{bytes_eq-Decides}
 use Rattle.std.specs.Prelude.{flat_map}
 use Rattle.wh_base.specs.Lists.{has_text, same_text}
-use Rattle.wh_lex.specs.declared.token.Token.{Token}
-use Rattle.wh_lex.specs.declared.token.TokenKind.TheVariants as kinds
+use Rattle.wh_base.specs.declared.tokens.Token.{Token}
+use Rattle.wh_base.specs.declared.tokens.TokenKind.TheVariants as kinds
 use Rattle.def_grammar.specs.Canonical.{bare, clause_tokens, listed_tokens}
 use Rattle.def_grammar.specs.Reading.{Rule, gives, many, many_times, mapped, mark, maybe, name, optional_list, reserved, word, ◌>>=◌, ◌>>◌, ◌or◌}
 use Rattle.def_grammar.specs.Written.{Each, EachOfSome}

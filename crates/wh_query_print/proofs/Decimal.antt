@@ -1,13 +1,15 @@
--- A number in decimal is a numeral that reads as the number.
+-- A number in decimal is a numeral that reads as the number, and the text of a day stands on one line.
 use Rattle.std.proofs.Common.{◌≡◌, ℕ, ◌+◌, ◌-◌, ◌*◌, ◌/◌, ◌%◌, ◌^◌, ◌<◌, ◌≤◌, suc, zero, List, [], ◌∷◌, length, refl, ap, ◌∙◌, arith, Some, cond, true, false, Bool}
 use Rattle.std.proofs.lemmas.Bool.Decides.{nat_tests}
+use Rattle.std.proofs.lemmas.List.Folds.{list_all-append}
 use Rattle.std.proofs.Math.Nat.{pow-succ'}
 use Rattle.std.specs.Char.{is_ascii_digit}
 use Rattle.std.specs.Fmt.{decimal, digit_glyph, digits, digits_onto}
 use Rattle.std.specs.List.{list_all}
-use Rattle.std.specs.Prelude.{nat_le, nat_lt, ◌==◌}
+use Rattle.std.specs.Prelude.{nat_le, nat_lt, not, ℤ, ◌&&◌, ◌++◌, ◌==◌}
+use Rattle.wh_base.specs.Days.{Date, date_of, date_text, day_text, padded}
 use Rattle.wh_base.specs.Values.{digits_number, digits_value}
-use Rattle.def_grammar.specs.Written.{is_numeral}
+use Rattle.def_grammar.specs.Written.{is_line, is_numeral}
 
 glyph-is : (d : ℕ) → d < 10 → digit_glyph false d ≡ 48 + d
 glyph-is d h = grind (arith, nat_tests)
@@ -99,3 +101,26 @@ unfolding digits
 number-decimal n h =
     let some : 0 < length (digits_onto 64 10 false n []) = some-case 63 n [] (n / 10 == 0) (λ acc'. grows 63 (n / 10) acc') in
     number-from (decimal n) n some (onto 64 n [] (wide n h))
+
+-- ---- days
+
+both-true : (p q : Bool) → p ≡ true → q ≡ true → (p && q) ≡ true
+both-true p q h k = rw (h, k) refl
+
+lines : (xs ys : List ℕ) → is_line xs ≡ true → is_line ys ≡ true → is_line (xs ++ ys) ≡ true
+lines xs ys h k = list_all-append (λ b. not (b == 10)) xs ys ∙ both-true (is_line xs) (is_line ys) h k
+
+digit-line : (n : ℕ) → is_line ((48 + n % 10) ∷ []) ≡ true
+digit-line n = let kept : not (48 + n % 10 == 10) ≡ true = grind (arith, nat_tests) in rw kept refl
+
+padded-line : (k n : ℕ) → is_line (padded k n) ≡ true
+padded-line zero n = refl
+padded-line (suc k) n = lines (padded k (n / 10)) ((48 + n % 10) ∷ []) (padded-line k (n / 10)) (digit-line n)
+
+date-line : (d : Date) → is_line (date_text d) ≡ true
+date-line d =
+    lines (padded 4 d.year) (45 ∷ (padded 2 d.month ++ (45 ∷ padded 2 d.day))) (padded-line 4 d.year)
+    (lines (padded 2 d.month) (45 ∷ padded 2 d.day) (padded-line 2 d.month) (padded-line 2 d.day))
+
+pub day-line : (n : ℤ) → is_line (day_text n) ≡ true
+day-line n = date-line (date_of n)

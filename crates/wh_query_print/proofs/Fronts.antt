@@ -10,7 +10,7 @@ use Rattle.std.specs.Prelude.{flat_map, nat_lt, not, take_while, ◌==◌}
 use Rattle.wh_lex.specs.Tokens.{front_of, is_name_byte, name_part, number_part, start_of, text_more, text_of}
 use Rattle.wh_lex.specs.declared.front.Front.TheVariants as front
 use Rattle.wh_lex.specs.declared.front.Start.TheVariants as starts
-use Rattle.wh_lex.specs.declared.token.TokenKind.TheVariants as kinds
+use Rattle.wh_base.specs.declared.tokens.TokenKind.TheVariants as kinds
 use Rattle.def_grammar.specs.Reading.{doubled}
 use Rattle.def_grammar.specs.Written.{is_folded, is_identifier, is_line, is_numeral}
 

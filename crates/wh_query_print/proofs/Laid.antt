@@ -10,10 +10,10 @@ use Rattle.wh_lex.specs.Lex.{after, tokens_from, tokens_of, with_front}
 use Rattle.wh_lex.specs.Tokens.{front_of, is_name_byte, text_part}
 use Rattle.wh_lex.specs.declared.front.Front.TheVariants as front
 use Rattle.wh_lex.specs.declared.lex.LexFault.{LexFault}
-use Rattle.wh_lex.specs.declared.token.Token.{Token}
-use Rattle.wh_lex.specs.declared.token.TokenKind.{TokenKind}
-use Rattle.wh_lex.specs.declared.token.TokenKind.TheVariants as kinds
-use Rattle.def_grammar.specs.Canonical.{bare, is_call, is_closing, is_joined, is_negative, is_opening, laid, laid_behind, quoted_text, written_token}
+use Rattle.wh_base.specs.declared.tokens.Token.{Token}
+use Rattle.wh_base.specs.declared.tokens.TokenKind.{TokenKind}
+use Rattle.wh_base.specs.declared.tokens.TokenKind.TheVariants as kinds
+use Rattle.def_grammar.specs.Canonical.{is_call, is_closing, is_joined, is_negative, is_opening, laid, laid_behind, quoted_text, written_token}
 use Rattle.def_grammar.specs.Reading.{doubled, is_token, same_token_kind}
 use Rattle.def_grammar.specs.Written.{Each, IsSpelled, is_line, is_numeral, is_spelling}
 use Rattle.wh_query_print.specs.Kept.{unplaced}

@@ -2,7 +2,6 @@ mod Decimal
 mod Fronts
 mod Marks
 mod Laid
-mod KeptText
 mod Spelled
 mod Sound
 mod Rules

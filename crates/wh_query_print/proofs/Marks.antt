@@ -6,7 +6,7 @@ use Rattle.std.specs.Prelude.{codes, ◌==◌}
 use Rattle.wh_base.specs.Lists.{has_text, same_text}
 use Rattle.wh_lex.specs.Tokens.{front_of}
 use Rattle.wh_lex.specs.declared.front.Front.TheVariants as front
-use Rattle.wh_lex.specs.declared.token.TokenKind.TheVariants as kinds
+use Rattle.wh_base.specs.declared.tokens.TokenKind.TheVariants as kinds
 use Rattle.def_grammar.specs.Written.{Each, marks}
 use Rattle.wh_query_print.proofs.Fronts.{begins}
 

@@ -21,14 +21,14 @@ use Rattle.wh_base.specs.declared.queries.RawTest.{RawTest}
 use Rattle.wh_base.specs.declared.queries.RawWhat.{RawWhat}
 use Rattle.wh_base.specs.declared.queries.RawWhat.TheVariants as what
 use Rattle.wh_base.specs.declared.values.Literal.{Literal}
-use Rattle.wh_base.specs.declared.values.Literal.TheVariants.{Number, Quoted}
+use Rattle.wh_base.specs.declared.values.Literal.TheVariants.{Dated, Number, Quoted}
 use Rattle.wh_base.specs.declared.values.Op.{Op}
 use Rattle.wh_base.specs.declared.values.Op.TheVariants.{Eq, Ge, Gt, Le, Lt, Ne}
-use Rattle.wh_lex.specs.declared.token.Token.{Token}
-use Rattle.wh_lex.specs.declared.token.TokenKind.TheVariants as kinds
+use Rattle.wh_base.specs.declared.tokens.Token.{Token}
+use Rattle.wh_base.specs.declared.tokens.TokenKind.TheVariants as kinds
 use Rattle.def_grammar.specs.Canonical.{aggregate_tokens, alias_tokens, another_table_tokens, as_of_tokens, bare, call_tokens, clause_tokens, column_tokens, comma, condition_column, condition_tail_tokens, condition_tokens, direction_tokens, expression_tokens, from_tokens, item_tokens, joined_tokens, key_tokens, listed_tokens, literal_tokens, marked, named, op_text, order_tokens, part_tokens, qualifier_tokens, query_tokens, signed_tokens, table_alias_tokens, table_tokens, test_tokens, what_tokens}
 use Rattle.def_grammar.specs.Written.{AreTables, Each, EachOfSome, IfThere, IsAggregate, IsColumn, IsCondition, IsExpression, IsItem, IsJoin, IsKey, IsLiteral, IsName, IsNamePart, IsOrder, IsSigned, IsSpelled, IsTable, IsTest, IsUnsigned, IsWhat, IsWritten, is_identifier}
-use Rattle.wh_query_print.proofs.Decimal.{numeral-decimal}
+use Rattle.wh_query_print.proofs.Decimal.{day-line, numeral-decimal}
 use Rattle.wh_query_print.specs.Kept.{unplaced}
 
 -- a token of no place that a text may have
@@ -63,6 +63,7 @@ signed-plain (negsuc n) h = ((refl, refl), ((numeral-decimal (suc n) h, refl), t
 literal-plain : (l : Literal) → IsLiteral l → Each IsPlain (literal_tokens l)
 literal-plain (Number z) h = signed-plain z h
 literal-plain (Quoted text) h = ((h, refl), tt)
+literal-plain (Dated n) h = ((refl, refl), ((day-line n, refl), tt))
 
 qualifier-plain : (q : Option (List ℕ)) → IfThere IsName q → Each IsPlain (qualifier_tokens q)
 qualifier-plain None h = tt

@@ -1,6 +1,7 @@
 -- Each rule of a query reads back the tokens of what can be written.
-use Rattle.std.proofs.Common.{◌≡◌, ℕ, ◌<◌, ◌^◌, suc, List, ◌∷◌, ◌++◌, refl, sym, append_assoc, true, false, Bool, ◌||◌, subst, Option, Some, None}
-use Rattle.std.specs.Prelude.{codes, decimal, neg_ℤ, negsuc, pos, ℤ}
+use Rattle.std.proofs.Common.{◌≡◌, ℕ, ◌<◌, ◌^◌, suc, List, ◌∷◌, ◌++◌, refl, ap, sym, append_assoc, true, false, Bool, ◌||◌, subst, Option, Some, None}
+use Rattle.std.specs.Prelude.{codes, decimal, neg_ℤ, negsuc, option_map, pos, ℤ}
+use Rattle.wh_base.proofs.Calendar.{names_its_day}
 use Rattle.wh_base.specs.Lists.{has_text, same_text}
 use Rattle.wh_base.specs.declared.queries.ColName.{ColName}
 use Rattle.wh_base.specs.declared.queries.NamePart.{NamePart}
@@ -19,11 +20,11 @@ use Rattle.wh_base.specs.declared.queries.RawTest.{RawTest}
 use Rattle.wh_base.specs.declared.queries.RawWhat.{RawWhat}
 use Rattle.wh_base.specs.declared.queries.RawWhat.TheVariants as what
 use Rattle.wh_base.specs.declared.values.Literal.{Literal}
-use Rattle.wh_base.specs.declared.values.Literal.TheVariants.{Number, Quoted}
+use Rattle.wh_base.specs.declared.values.Literal.TheVariants.{Dated, Number, Quoted}
 use Rattle.wh_base.specs.declared.values.Op.{Op}
 use Rattle.wh_base.specs.declared.values.Op.TheVariants.{Eq, Ge, Gt, Le, Lt, Ne}
-use Rattle.wh_lex.specs.declared.token.Token.{Token}
-use Rattle.wh_lex.specs.declared.token.TokenKind.TheVariants as kinds
+use Rattle.wh_base.specs.declared.tokens.Token.{Token}
+use Rattle.wh_base.specs.declared.tokens.TokenKind.TheVariants as kinds
 use Rattle.def_grammar.specs.Canonical.{aggregate_tokens, alias_tokens, bare, column_tokens, comma, condition_column, condition_tail_tokens, condition_tokens, direction_tokens, expression_tokens, item_tokens, key_tokens, listed_tokens, literal_tokens, marked, named, numbered, op_text, order_tokens, part_tokens, qualifier_tokens, signed_tokens, test_tokens, what_tokens}
 use Rattle.def_grammar.specs.Query.{aggregate, aggregate_of, alias, column, column_named_by, condition, condition_on, expression, item, literal, marker, operator, order_key, plain_name, qualifier, rowid_as, signed, test}
 use Rattle.def_grammar.specs.Reading.{Rule, bracketed, gives, listed, mapped, mark, name, number, reserved, word, ◌>>=◌, ◌>>◌, ◌or◌}
@@ -56,6 +57,7 @@ signed-read (negsuc n) h ts =
 pub literal-read : (l : Literal) → IsLiteral l → (ts : List Token) → literal (literal_tokens l ++ ts) ≡ Some (l, ts)
 literal-read (Number z) h ts = rw (signed-read z h ts) refl
 literal-read (Quoted text) h ts = refl
+literal-read (Dated n) h ts = ap (λ o. option_map (λ l. (l, ts)) (option_map Dated o)) (names_its_day n h)
 
 -- ---- columns
 
@@ -148,7 +150,7 @@ column-read c h ts after = part-read c.qualifier c.part h.0 h.1 ts after
 
 -- ---- what a column begins with
 
--- a word that begins no aggregate
+-- a word that begins no aggregate and no date
 pub record Head (ts : List Token) : Type 0 where
   pub first : List ℕ
   pub others : List Token
@@ -158,6 +160,7 @@ pub record Head (ts : List Token) : Type 0 where
   pub avg : same_text first (codes "AVG") ≡ false
   pub min : same_text first (codes "MIN") ≡ false
   pub max : same_text first (codes "MAX") ≡ false
+  pub date : same_text first (codes "DATE") ≡ false
 
 head-name : (n : List ℕ) → IsName n → (ts : List Token) → Head (bare kinds.Name n ∷ ts)
 head-name n h ts =
@@ -170,20 +173,21 @@ head-name n h ts =
       avg = not-word (codes "AVG") n h refl;
       min = not-word (codes "MIN") n h refl;
       max = not-word (codes "MAX") n h refl;
+      date = not-word (codes "DATE") n h refl;
     }
 
 part-head : (q : Option (List ℕ)) (p : NamePart) → IfThere IsName q → IsNamePart p → (ts : List Token) → Head (part_tokens p (qualifier_tokens q) ++ ts)
-part-head q MarkName k h ts = record { first = codes "DBMS_MVIEW"; others = _; is = refl; count = refl; sum = refl; avg = refl; min = refl; max = refl }
+part-head q MarkName k h ts = record { first = codes "DBMS_MVIEW"; others = _; is = refl; count = refl; sum = refl; avg = refl; min = refl; max = refl; date = refl }
 part-head None (Plain n) k h ts = head-name n h ts
 part-head (Some m) (Plain n) k h ts = head-name m k (bare kinds.Mark (codes ".") ∷ bare kinds.Name n ∷ ts)
-part-head None RowIdName k h ts = record { first = codes "ROWID"; others = ts; is = refl; count = refl; sum = refl; avg = refl; min = refl; max = refl }
+part-head None RowIdName k h ts = record { first = codes "ROWID"; others = ts; is = refl; count = refl; sum = refl; avg = refl; min = refl; max = refl; date = refl }
 part-head (Some m) RowIdName k h ts = head-name m k (bare kinds.Mark (codes ".") ∷ bare kinds.Name (codes "ROWID") ∷ ts)
 
 pub column-head : (c : ColName) → IsColumn c → (ts : List Token) → Head (column_tokens c ++ ts)
 column-head c h ts = part-head c.qualifier c.part h.0 h.1 ts
 
 no-literal : (ts : List Token) → Head ts → literal ts ≡ None
-no-literal ts h = rw h.is refl
+no-literal ts h = rw (h.is, h.date) refl
 
 no-signed : (ts : List Token) → Head ts → signed ts ≡ None
 no-signed ts h = rw h.is refl

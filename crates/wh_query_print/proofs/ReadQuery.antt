@@ -10,8 +10,8 @@ use Rattle.wh_base.specs.declared.queries.RawKey.{RawKey}
 use Rattle.wh_base.specs.declared.queries.RawQuery.{RawQuery}
 use Rattle.wh_base.specs.declared.queries.RawTable.{RawTable}
 use Rattle.wh_base.specs.declared.queries.RawTest.{RawTest}
-use Rattle.wh_lex.specs.declared.token.Token.{Token}
-use Rattle.wh_lex.specs.declared.token.TokenKind.TheVariants as kinds
+use Rattle.wh_base.specs.declared.tokens.Token.{Token}
+use Rattle.wh_base.specs.declared.tokens.TokenKind.TheVariants as kinds
 use Rattle.def_grammar.specs.Canonical.{another_table_tokens, as_of_tokens, bare, column_tokens, comma, condition_tokens, from_tokens, group_tokens, having_tokens, item_tokens, joined_tokens, key_tokens, listed_tokens, marked, named, order_by_tokens, query_tokens, table_alias_tokens, table_tokens, test_tokens, where_tokens}
 use Rattle.def_grammar.specs.Query.{all_of, as_of, column, condition, from_tables, item, join, joined_table, on_join, order_key, select, table, table_with, test, where_conditions}
 use Rattle.def_grammar.specs.Reading.{Rule, bracketed, gives, listed, many, mapped, mark, maybe, name, number, optional_list, word, ◌>>=◌, ◌>>◌, ◌or◌}

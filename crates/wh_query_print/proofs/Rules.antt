@@ -1,7 +1,9 @@
 -- What each rule of a query gives can be written.
-use Rattle.std.proofs.Common.{◌≡◌, ℕ, ◌<◌, ◌^◌, suc, zero, List, [], ◌∷◌, ◌++◌, length, refl, arith, true, false, Bool, ◌&&◌, map, Option, Some, None}
+use Rattle.std.proofs.Common.{◌≡◌, ℕ, ◌<◌, ◌^◌, suc, zero, List, [], ◌∷◌, ◌++◌, length, refl, subst, arith, true, false, Bool, ◌&&◌, map, Option, Some, None}
 use Rattle.std.proofs.lemmas.Bool.Decides.{nat_tests}
 use Rattle.std.specs.Prelude.{codes, nat_lt, neg_ℤ, not, option_map, pos, unwrap_or, ℤ}
+use Rattle.wh_base.proofs.Calendar.{is_its_text}
+use Rattle.wh_base.specs.DayTexts.{day_of}
 use Rattle.wh_base.specs.Lists.{has_text, option_case, where_true}
 use Rattle.wh_base.specs.Values.{digits_number}
 use Rattle.wh_base.specs.declared.queries.ColName.{ColName}
@@ -24,19 +26,19 @@ use Rattle.wh_base.specs.declared.queries.RawTest.{RawTest}
 use Rattle.wh_base.specs.declared.queries.RawWhat.{RawWhat}
 use Rattle.wh_base.specs.declared.queries.RawWhat.TheVariants as what
 use Rattle.wh_base.specs.declared.values.Literal.{Literal}
-use Rattle.wh_base.specs.declared.values.Literal.TheVariants.{Number, Quoted}
+use Rattle.wh_base.specs.declared.values.Literal.TheVariants.{Dated, Number, Quoted}
 use Rattle.wh_base.specs.declared.values.Op.{Op}
 use Rattle.wh_base.specs.declared.values.Op.TheVariants.{Eq, Ge, Gt, Le, Lt, Ne}
-use Rattle.wh_lex.specs.declared.token.Token.{Token}
-use Rattle.wh_lex.specs.declared.token.TokenKind.{TokenKind}
-use Rattle.wh_lex.specs.declared.token.TokenKind.TheVariants as kinds
-use Rattle.def_grammar.specs.Query.{aggregate, aggregate_of, alias, all_of, as_of, column, column_named_by, condition, condition_on, expression, from_tables, item, join, joined_table, literal, marker, on_join, op_of, operator, order_key, plain_name, product_or_column, qualifier, rowid_as, select, signed, table, table_with, test, where_conditions}
-use Rattle.def_grammar.specs.Reading.{Rule, bracketed, gives, is_name, listed, many, mapped, mark, maybe, name, number, optional_list, quoted, reserved, same_token_kind, word, ◌>>=◌, ◌>>◌, ◌or◌}
+use Rattle.wh_base.specs.declared.tokens.Token.{Token}
+use Rattle.wh_base.specs.declared.tokens.TokenKind.{TokenKind}
+use Rattle.wh_base.specs.declared.tokens.TokenKind.TheVariants as kinds
+use Rattle.def_grammar.specs.Query.{aggregate, aggregate_of, alias, all_of, as_of, column, column_named_by, condition, condition_on, date, expression, from_tables, item, join, joined_table, literal, marker, on_join, op_of, operator, order_key, plain_name, product_or_column, qualifier, rowid_as, select, signed, table, table_with, test, where_conditions}
+use Rattle.def_grammar.specs.Reading.{Rule, bracketed, gives, is_name, listed, made_by, many, mapped, mark, maybe, name, number, optional_list, quoted, reserved, same_token_kind, word, ◌>>=◌, ◌>>◌, ◌or◌}
 use Rattle.def_grammar.specs.Written.{AreTables, Each, EachOfSome, IfThere, IsAggregate, IsColumn, IsCondition, IsExpression, IsItem, IsJoin, IsKey, IsLiteral, IsName, IsNamePart, IsOrder, IsSigned, IsSpelled, IsTable, IsTest, IsUnsigned, IsWhat, IsWritten, is_line, is_numeral, is_spelling}
 use Rattle.wh_lex.proofs.Numbers.{front_fits}
 use Rattle.wh_query_print.proofs.Fronts.{front-number}
 use Rattle.wh_query_print.specs.Kept.{unplaced}
-use Rattle.wh_query_print.proofs.Sound.{Alike, Along, Blind, Sound, bind-sound, bracketed-sound, const-sound, gives-sound, listed-sound, many-sound, mapped-sound, mark-blind, maybe-blind, maybe-sound, optional-sound, or-sound, then-blind, then-sound, word-blind}
+use Rattle.wh_query_print.proofs.Sound.{Alike, Along, Blind, Sound, bind-sound, bracketed-sound, const-sound, gives-sound, listed-sound, made-sound, many-sound, mapped-sound, mark-blind, maybe-blind, maybe-sound, optional-sound, or-sound, then-blind, then-sound, word-blind}
 
 -- ---- names, numbers and texts
 
@@ -120,9 +122,25 @@ signed-sound =
     (then-sound IsSigned (mark (codes "-")) (mapped (λ n. neg_ℤ (pos n)) number) (mark-blind (codes "-")) (mapped-sound IsFew IsSigned (λ n. neg_ℤ (pos n)) number number-sound negative))
     (mapped-sound IsFew IsSigned pos number number-sound (λ n h. h))
 
+abbrev day_literal : List ℕ → Option Literal
+day_literal text = option_map Dated (day_of text)
+
+dated-written : (text : List ℕ) (l : Literal) (o : Option ℤ) → day_of text ≡ o → option_map Dated o ≡ Some l → IsLiteral l
+dated-written text l None e h = cc
+dated-written text l (Some n) e h = let same : Dated n ≡ l = some-same (Dated n) l h in subst IsLiteral same (is_its_text text n e).0
+  where
+    some-same : (k l : Literal) → Some k ≡ Some l → k ≡ l
+    some-same k l e = cc
+
+date-sound : Sound IsLiteral date
+date-sound =
+    then-sound IsLiteral (word (codes "DATE")) (made_by day_literal quoted) (word-blind (codes "DATE"))
+    (made-sound IsText IsLiteral day_literal quoted quoted-sound (λ text l h e. dated-written text l (day_of text) refl e))
+
 literal-sound : Sound IsLiteral literal
 literal-sound =
-    or-sound IsLiteral (mapped Number signed) (mapped Quoted quoted) (mapped-sound IsSigned IsLiteral Number signed signed-sound (λ z h. h)) (mapped-sound IsText IsLiteral Quoted quoted quoted-sound (λ t h. h))
+    or-sound IsLiteral (mapped Number signed) (mapped Quoted quoted or date) (mapped-sound IsSigned IsLiteral Number signed signed-sound (λ z h. h))
+    (or-sound IsLiteral (mapped Quoted quoted) date (mapped-sound IsText IsLiteral Quoted quoted quoted-sound (λ t h. h)) date-sound)
 
 qualifier-sound : Sound (IfThere IsName) qualifier
 qualifier-sound =

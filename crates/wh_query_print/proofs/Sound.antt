@@ -3,10 +3,10 @@ use Rattle.std.proofs.Common.{◌≡◌, ℕ, suc, zero, List, [], ◌∷◌, le
 use Rattle.std.proofs.lemmas.List.{length-map}
 use Rattle.std.specs.Prelude.{codes, option_map, unwrap_or}
 use Rattle.wh_base.specs.Lists.{option_case, where_true}
-use Rattle.wh_lex.specs.declared.token.Token.{Token}
-use Rattle.wh_lex.specs.declared.token.TokenKind.{TokenKind}
-use Rattle.wh_lex.specs.declared.token.TokenKind.TheVariants as kinds
-use Rattle.def_grammar.specs.Reading.{Rule, bracketed, gives, is_token, listed, many, many_times, mapped, mark, maybe, optional_list, or_else, token_where, word, ◌>>=◌, ◌>>◌, ◌or◌}
+use Rattle.wh_base.specs.declared.tokens.Token.{Token}
+use Rattle.wh_base.specs.declared.tokens.TokenKind.{TokenKind}
+use Rattle.wh_base.specs.declared.tokens.TokenKind.TheVariants as kinds
+use Rattle.def_grammar.specs.Reading.{Rule, bracketed, gives, is_token, listed, made_by, many, many_times, mapped, mark, maybe, optional_list, or_else, token_where, word, ◌>>=◌, ◌>>◌, ◌or◌}
 use Rattle.def_grammar.specs.Written.{Each, EachOfSome, IfThere, IsSpelled}
 use Rattle.wh_query_print.specs.Kept.{unplaced}
 
@@ -85,6 +85,22 @@ mapped-alike P Q f k (Some p) (Some q) h = (ap f h.0, k p.0 h.1, h.2, h.3)
 
 pub mapped-sound : {A B : Type 0} (P : A → Type 0) (Q : B → Type 0) (f : A → B) (r : Rule A) → Sound P r → ((x : A) → P x → Q (f x)) → Sound Q (mapped f r)
 mapped-sound P Q f r h k = record { alike = λ ts all. mapped-alike P Q f k (r ts) (r (map unplaced ts)) (h.alike ts all) }
+
+option-alike : {B : Type 0} (Q : B → Type 0) (o : Option B) → ((y : B) → o ≡ Some y → Q y) → (ts us : List Token) → us ≡ map unplaced ts → Each IsSpelled ts
+    → Alike Q (option_map (λ y. (y, ts)) o) (option_map (λ y. (y, us)) o)
+option-alike Q None k ts us same all = tt
+option-alike Q (Some y) k ts us same all = (refl, k y refl, same, all)
+
+made-alike : {A B : Type 0} (P : A → Type 0) (Q : B → Type 0) (f : A → Option B) → ((x : A) (y : B) → P x → f x ≡ Some y → Q y) → (o u : Option (A × List Token)) → Alike P o u
+    → Alike Q (option_case o None (λ p. option_map (λ y. (y, p.1)) (f p.0))) (option_case u None (λ p. option_map (λ y. (y, p.1)) (f p.0)))
+made-alike P Q f k None None h = tt
+made-alike P Q f k None (Some q) h = absurd h
+made-alike P Q f k (Some p) None h = absurd h
+made-alike P Q f k (Some p) (Some q) h = rw (h.0) (option-alike Q (f p.0) (λ y e. k p.0 y h.1 e) p.1 q.1 h.2 h.3)
+
+-- what a rule gives, where something is made of it
+pub made-sound : {A B : Type 0} (P : A → Type 0) (Q : B → Type 0) (f : A → Option B) (r : Rule A) → Sound P r → ((x : A) (y : B) → P x → f x ≡ Some y → Q y) → Sound Q (made_by f r)
+made-sound P Q f r h k = record { alike = λ ts all. made-alike P Q f k (r ts) (r (map unplaced ts)) (h.alike ts all) }
 
 const-alike : {A B : Type 0} (Q : B → Type 0) (x : B) → Q x → (o u : Option (A × List Token)) → Along o u
     → Alike Q (option_map (λ p. (x, p.1)) o) (option_map (λ p. (x, p.1)) u)

@@ -1,5 +1,5 @@
 -- Each token of a text has a text that a token may have.
-use Rattle.std.proofs.Common.{◌≡◌, ℕ, ◌+◌, suc, zero, List, [], ◌∷◌, length, get_or, refl, ap, sym, arith, true, false, Bool, ◌&&◌, ◌||◌, cond, drop, map, take, subst, Result, Ok, Err, Option, Some, None, inl, inr}
+use Rattle.std.proofs.Common.{◌≡◌, ℕ, ◌+◌, suc, zero, List, [], ◌∷◌, length, get_or, refl, ap, sym, arith, true, false, Bool, ◌&&◌, ◌||◌, map, take, subst, Result, Ok, Err, Option, Some, None, inl, inr}
 use Rattle.std.proofs.lemmas.Bool.Decides.{nat_tests}
 use Rattle.std.proofs.lemmas.List.{length-map}
 use Rattle.std.proofs.lemmas.List.Sums.{take_while-cons}
@@ -7,16 +7,14 @@ use Rattle.std.specs.Char.{is_ascii_alphabetic, is_ascii_digit, to_ascii_upperca
 use Rattle.std.specs.List.{list_all}
 use Rattle.std.specs.Prelude.{if◌then◌else◌, nat_lt, take_while, ◌==◌}
 use Rattle.wh_base.specs.Lists.{has_text}
-use Rattle.wh_lex.specs.Lex.{after, closed_by, in_statement, is_semicolon, statement_at, statement_from, token_at, tokens_from, tokens_of, with_front, with_tokens}
+use Rattle.wh_lex.specs.Lex.{after, tokens_from, tokens_of, with_front}
 use Rattle.wh_lex.specs.Tokens.{front_of, is_name_byte, is_single, mark_part, name_part, number_part, part_of, text_more, text_of, text_part}
 use Rattle.wh_lex.specs.declared.front.Front.{Front}
 use Rattle.wh_lex.specs.declared.front.Front.TheVariants as front
 use Rattle.wh_lex.specs.declared.front.Start.TheVariants as starts
 use Rattle.wh_lex.specs.declared.lex.LexFault.{LexFault}
-use Rattle.wh_lex.specs.declared.lex.StatementTokens.{StatementTokens}
-use Rattle.wh_lex.specs.declared.token.Token.{Token}
-use Rattle.wh_lex.specs.declared.token.TokenKind.{TokenKind}
-use Rattle.wh_lex.specs.declared.token.TokenKind.TheVariants as kinds
+use Rattle.wh_base.specs.declared.tokens.Token.{Token}
+use Rattle.wh_base.specs.declared.tokens.TokenKind.TheVariants as kinds
 use Rattle.def_grammar.specs.Written.{Each, IsSpelled, is_folded, is_line, is_spelling, marks}
 use Rattle.wh_query_print.proofs.Laid.{or-cases}
 
@@ -188,36 +186,3 @@ of-read r ts all e = subst EachRead e all
 pub tokens-spelled : (text : List ℕ) (ts : List Token) → tokens_of text ≡ Ok ts → Each IsSpelled ts
 unfolding tokens_of
 tokens-spelled text ts e = of-read (tokens_from 0 0 text) ts (each-from 0 0 text) e
-
--- ---- the tokens of one statement
-
-abbrev EachOf : Result StatementTokens LexFault → Type 0
-EachOf (Ok s) = Each IsSpelled s.tokens
-EachOf (Err e) = Unit {0}
-
-of-more : (t : Token) (r : Result StatementTokens LexFault) → IsSpelled t → EachOf r → EachOf (with_tokens (t ∷ []) r)
-of-more t (Ok s) one more = (one, more)
-of-more t (Err e) one more = tt
-
-of-token : (kind : TokenKind) (text : List ℕ) (place more : ℕ) (r : Result StatementTokens LexFault) (ends : Bool) → is_spelling kind text ≡ true → EachOf r
-    → EachOf (cond ends (closed_by (token_at kind text place more)) (with_tokens (token_at kind text place more ∷ []) r))
-of-token kind text place more r true one others = tt
-of-token kind text place more r false one others = of-more (token_at kind text place more) r one others
-
-of-front : (x : Front) (place : ℕ) (rest : ℕ → Result StatementTokens LexFault) → FrontSpelled x → ((n : ℕ) → EachOf (rest n)) → EachOf (in_statement x place rest)
-of-front (front.Blank more) place rest one others = others more
-of-front (front.Token kind text more) place rest one others = of-token kind text place more (rest more) (is_semicolon kind text) one (others more)
-of-front front.Bad place rest one others = tt
-of-front front.Open place rest one others = tt
-
-of-from : (skip place : ℕ) (bytes : List ℕ) → EachOf (statement_from skip place bytes)
-of-from skip place [] = tt
-of-from (suc skip) place (b ∷ bytes) = of-from skip (suc place) bytes
-of-from zero place (b ∷ bytes) = of-front (front_of (b ∷ bytes)) place (λ more. statement_from more (suc place) bytes) (front-spelled b bytes) (λ more. of-from more (suc place) bytes)
-
-of-statement : (r : Result StatementTokens LexFault) (s : StatementTokens) → EachOf r → r ≡ Ok s → Each IsSpelled s.tokens
-of-statement r s all e = subst EachOf e all
-
-pub statement-spelled : (text : List ℕ) (place : ℕ) (s : StatementTokens) → statement_at text place ≡ Ok s → Each IsSpelled s.tokens
-unfolding statement_at
-statement-spelled text place s e = of-statement (statement_from 0 place (drop place text)) s (of-from 0 place (drop place text)) e

@@ -6,9 +6,9 @@ use crate::pieces::{Pieces, ToTokens, push_more};
 use std::alloc::AllocError;
 use wh_base::queries::{ColName, RawCondition, RawJoin, RawKey, RawOrder, RawTable, RawTest};
 use wh_base::seq::Seq;
+use wh_base::tokens::TokenKind;
 use wh_base::txt::Txt;
 use wh_base::values::{Literal, Op};
-use wh_lex::token::TokenKind;
 
 impl ToTokens for RawTable {
     ghost tokens = { another_table_tokens };

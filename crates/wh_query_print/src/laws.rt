@@ -1,24 +1,12 @@
 ghost use Rattle.def_grammar.specs.Canonical.{query_text};
-ghost use Rattle.def_grammar.specs.Forms.{asked};
 ghost use Rattle.def_grammar.specs.Query.{select};
 ghost use Rattle.def_grammar.specs.Written.{Each, IsSpelled, IsWritten, ReadsAs};
-ghost use Rattle.std.specs.Prelude.{◌≡◌, ◌-◌, List, Ok, Some, length, take, ℕ};
+ghost use Rattle.std.specs.Prelude.{◌≡◌, List, Ok, Some, ℕ};
 ghost use Rattle.wh_base.specs.declared.queries.RawQuery.{RawQuery};
-ghost use Rattle.wh_base.specs.declared.statements.Asked.{Asked};
-ghost use Rattle.wh_query_print.specs.Kept.{HasTokens};
-ghost use Rattle.wh_lex.specs.Lex.{statement_at, tokens_of};
-ghost use Rattle.wh_lex.specs.declared.lex.StatementTokens.{StatementTokens};
-ghost use Rattle.wh_lex.specs.declared.token.Token.{Token};
+ghost use Rattle.wh_base.specs.declared.tokens.Token.{Token};
+ghost use Rattle.wh_lex.specs.Lex.{tokens_of};
 
-/// The tokens of a text, and those of one of its statements, have texts that tokens may have.
-pub fn tokens_are_spelled()
-    ensures whole { (text : List ℕ) (tokens : List Token)
-        → tokens_of text ≡ Ok tokens → Each IsSpelled tokens }
-    ensures statement { (text : List ℕ) (place : ℕ) (statement : StatementTokens)
-        → statement_at text place ≡ Ok statement → Each IsSpelled statement.tokens }
-{}
-
-/// Each query that the grammar gives for such tokens, and so for those of a text, can be written.
+/// Each query that the grammar gives for tokens with texts that tokens may have, and so for the tokens of a text, can be written.
 pub fn what_reads_can_be_written()
     ensures spelled { (tokens rest : List Token) (query : RawQuery)
         → Each IsSpelled tokens → select tokens ≡ Some (query, rest) → IsWritten query }
@@ -36,10 +24,4 @@ pub fn what_is_written_reads_back()
 pub fn a_text_is_of_one_query()
     ensures { (query other : RawQuery) → IsWritten query → IsWritten other
         → query_text query ≡ query_text other → query ≡ other }
-{}
-
-/// The text that is kept with a SELECT, an EXPLAIN REWRITE or a CREATE MATERIALIZED VIEW has the tokens of its SELECT.
-pub fn what_is_kept_reads_as_its_tokens()
-    ensures { (tokens rest : List Token) (kept : Asked)
-        → Each IsSpelled tokens → asked tokens ≡ Some (kept, rest) → HasTokens kept.text (take (length tokens - length rest) tokens) }
 {}

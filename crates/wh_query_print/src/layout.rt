@@ -1,13 +1,12 @@
 ghost use Rattle.def_grammar.specs.Canonical.{is_joined, laid, laid_behind, quoted_text, written_token};
-ghost use Rattle.def_grammar.specs.Reading.{is_token, same_token_kind};
-ghost use Rattle.std.specs.Prelude.{◌≡◌, ◌++◌, OnOk, map};
+ghost use Rattle.def_grammar.specs.Reading.{doubled, is_token, same_token_kind};
+ghost use Rattle.std.specs.Prelude.{◌≡◌, ◌++◌, OnOk, flat_map, map};
 ghost use Rattle.wh_query_print.specs.Pieces.{piece_token};
 
 use crate::pieces::Piece;
 use itoa::Buffer;
 use std::alloc::AllocError;
-use wh_lex::token::TokenKind;
-use wh_query_text::spelling::push_doubled;
+use wh_base::tokens::TokenKind;
 
 // The piece is this mark.
 fn is_mark(piece: &Piece<'_>, text: &[u8]) -> bool
@@ -61,6 +60,28 @@ fn is_joined(left: &Piece<'_>, right: &Piece<'_>) -> bool
         || is_mark(left, b"-") && is_number(right)
 }
 
+// The byte, or a quote twice.
+fn push_byte(out: &mut Vec<u8>, byte: u8) -> Result<(), AllocError>
+    ensures { OnOk result (out.new.items ≡ out.old.items ++ doubled byte) }
+{
+    if byte == b'\'' {
+        out.extend_from_slice(b"''")?;
+        return Ok(());
+    }
+    out.push(byte)?;
+    Ok(())
+}
+
+// The text with each quote doubled, as it stands between the quotes of a literal.
+fn push_doubled(out: &mut Vec<u8>, text: &[u8]) -> Result<(), AllocError>
+    ensures { OnOk result (out.new.items ≡ out.old.items ++ flat_map doubled text.now) }
+{
+    for byte in text {
+        push_byte(out, *byte)?;
+    }
+    Ok(())
+}
+
 fn push_quoted(out: &mut Vec<u8>, text: &[u8]) -> Result<(), AllocError>
     ensures { OnOk result (out.new.items ≡ out.old.items ++ quoted_text text.now) }
 {
@@ -80,6 +101,7 @@ fn push_piece(out: &mut Vec<u8>, piece: &Piece<'_>) -> Result<(), AllocError>
             let mut buffer = Buffer::new();
             out.extend_from_slice(buffer.format(*number).as_bytes())
         }
+        Piece::Day(text) => push_quoted(out, text.as_slice()),
     }
 }
 

@@ -3,10 +3,12 @@ ghost use Rattle.std.specs.Prelude.{◌≡◌, ◌++◌, OnOk, codes};
 
 use crate::pieces::{Pieces, ToTokens};
 use std::alloc::AllocError;
+use wh_base::day::Day;
 use wh_base::queries::{ColName, NamePart, RawAgg, RawExpr, RawItem, RawWhat};
+use wh_base::tokens::TokenKind;
 use wh_base::txt::Txt;
 use wh_base::values::Literal;
-use wh_lex::token::TokenKind;
+use wh_date::day_bytes;
 
 /// A number with its sign.
 pub fn push_signed(out: &mut Pieces<'_>, number: i128) -> Result<(), AllocError>
@@ -19,6 +21,15 @@ pub fn push_signed(out: &mut Pieces<'_>, number: i128) -> Result<(), AllocError>
     Ok(())
 }
 
+// DATE and the text of a day.
+fn push_date(out: &mut Pieces<'_>, day: Day) -> Result<(), AllocError>
+    ensures { OnOk result (out.new ≡ out.old ++ literal_tokens (Literal.Dated day)) }
+{
+    out.push(TokenKind::Name, b"DATE")?;
+    out.push_day(day_bytes(day))?;
+    Ok(())
+}
+
 impl ToTokens for Literal {
     ghost tokens = { literal_tokens };
 
@@ -26,6 +37,7 @@ impl ToTokens for Literal {
         match self {
             Literal::Number(number) => push_signed(out, number.get()),
             Literal::Quoted(text) => out.push(TokenKind::Text, text.as_slice()),
+            Literal::Dated(day) => push_date(out, *day),
         }
     }
 }

@@ -1,17 +1,18 @@
 ghost use Rattle.def_grammar.specs.Canonical.{bare, more_tokens, numbered};
 ghost use Rattle.std.specs.Prelude.{◌≡◌, ◌++◌, ◌∷◌, List, OnOk, [], map};
-ghost use Rattle.wh_lex.specs.declared.token.Token.{Token};
+ghost use Rattle.wh_base.specs.declared.tokens.Token.{Token};
 ghost use Rattle.wh_query_print.specs.Pieces.{piece_token};
 
 use std::alloc::{AllocError, Global};
 use std::marker::Model;
-use wh_lex::token::TokenKind;
+use wh_base::tokens::TokenKind;
 
-/// A token of a query, which lends its text from it.
+/// A token of a query, which lends its text from it, but for a number and the text of a day.
 #[derive(Clone, Copy)]
 pub enum Piece<'a> {
     Spelled(TokenKind, &'a [u8]),
     Number(u128),
+    Day([u8; 10]),
 }
 
 /// The tokens of a query in the order in which they are written, which contracts see as tokens of no place.
@@ -23,8 +24,8 @@ pub struct Pieces<'a> {
 impl<'a> Model for Pieces<'a> {
     ghost use Rattle.std.specs.Prelude.{List, map};
     ghost use Rattle.std.specs.Coded.{coded_list};
-    ghost use Rattle.wh_lex.specs.declared.token.Token.{Token};
-    ghost use Rattle.wh_lex.specs.contracts.token.Token.{the_row};
+    ghost use Rattle.wh_base.specs.declared.tokens.Token.{Token};
+    ghost use Rattle.wh_base.specs.contracts.tokens.Token.{the_row};
     ghost use Rattle.wh_query_print.specs.Pieces.{piece_token};
 
     ghost Value = { List Token };
@@ -64,6 +65,14 @@ impl<'a> Pieces<'a> {
         ensures { OnOk result (self.new ≡ self.old ++ numbered number) }
     {
         self.items.push(Piece::Number(number))?;
+        Ok(())
+    }
+
+    /// One more text, as long as that of a day. An error says that memory ran out.
+    pub fn push_day(&mut self, text: [u8; 10]) -> Result<(), AllocError>
+        ensures { OnOk result (self.new ≡ self.old ++ bare TokenKind.Text text ∷ []) }
+    {
+        self.items.push(Piece::Day(text))?;
         Ok(())
     }
 }

@@ -8,8 +8,8 @@ use crate::layout::push_laid;
 use crate::pieces::{Pieces, ToTokens};
 use std::alloc::{AllocError, Global};
 use wh_base::queries::{ColName, RawCondition, RawKey, RawQuery, RawTest};
+use wh_base::tokens::TokenKind;
 use wh_base::txt::Txt;
-use wh_lex::token::TokenKind;
 
 fn push_where<'a>(out: &mut Pieces<'a>, conditions: &'a [RawCondition]) -> Result<(), AllocError>
     ensures { OnOk result (out.new ≡ out.old ++ where_tokens conditions.now) }

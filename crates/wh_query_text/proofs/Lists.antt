@@ -1,9 +1,8 @@
--- Steps through a rule that reads again and again, and through a list whose texts are pushed.
-use Rattle.std.proofs.Common.{◌≡◌, ℕ, ◌+◌, ◌<◌, suc, List, [], ◌∷◌, ◌++◌, Option, Some, None, drop, get_or, length, refl, ap, sym, ◌∙◌, append_assoc, append-nil}
-use Rattle.std.proofs.lemmas.List.{drop_more}
-use Rattle.std.specs.Prelude.{flat_map, option_map}
+-- Steps through a rule that reads again and again.
+use Rattle.std.proofs.Common.{◌≡◌, ℕ, suc, List, [], ◌∷◌, ◌++◌, Option, Some, None, refl, ap, sym, append_assoc, append-nil}
+use Rattle.std.specs.Prelude.{option_map}
 use Rattle.def_grammar.specs.Reading.{many_times}
-use Rattle.wh_lex.specs.declared.token.Token.{Token}
+use Rattle.wh_base.specs.declared.tokens.Token.{Token}
 
 -- these items before those that are read
 abbrev pub with_items : {X : Type 0} → List X → Option (List X × List Token) → Option (List X × List Token)
@@ -24,11 +23,3 @@ stop r some n k tokens e h = rw (e, h) (ap (λ xs. Some (xs, tokens)) (append-ni
 -- where no token is left to count
 pub last : {X : Type 0} (r : List Token → Option (X × List Token)) (some : List X) (k : ℕ) (tokens : List Token) → k ≡ 0 → with_items some (many_times k r tokens) ≡ Some (some, tokens)
 last r some k tokens e = rw e (ap (λ xs. Some (xs, tokens)) (append-nil some))
-
--- one item more of a list whose texts stand one behind the other
-pub pushed : {X : Type 0} (f : X → List ℕ) (old new : List ℕ) (xs : List X) (i : ℕ) (x d : X) (all : List ℕ) → i < length xs → x ≡ get_or xs i d → new ≡ old ++ f x → old ++ flat_map f (drop i xs) ≡ all → new ++ flat_map f (drop (i + 1) xs) ≡ all
-pushed f old new xs i x d all h e p inv =
-    ap (λ bs. bs ++ flat_map f (drop (i + 1) xs)) (p ∙ ap (λ y. old ++ f y) e)
-    ∙ append_assoc old (f (get_or xs i d)) (flat_map f (drop (i + 1) xs))
-    ∙ ap (λ ys. old ++ flat_map f ys) (sym (drop_more xs i d h))
-    ∙ inv

@@ -6,7 +6,7 @@ use Rattle.def_grammar.specs.Reading.{Rule, bracketed, gives, listed, mapped, ma
 use Rattle.wh_base.specs.Lists.{option_case}
 use Rattle.wh_base.specs.declared.queries.ColName.{ColName}
 use Rattle.wh_base.specs.declared.queries.RawCondition.TheVariants as raw
-use Rattle.wh_lex.specs.declared.token.Token.{Token}
+use Rattle.wh_base.specs.declared.tokens.Token.{Token}
 use Rattle.wh_query_text.specs.Tail.{any_tail, between_tail, compare_tail, condition_with, equal_tail, null_tail, one_of_tail}
 use Rattle.wh_query_text.specs.declared.query.conditions.ConditionTail.TheVariants as tails
 
@@ -15,7 +15,7 @@ abbrev pub changed : {X Y : Type 0} → (X → Y) → Option (X × List Token) �
 changed f o = option_map (λ p. (f p.0, p.1)) o
 
 -- behind a first rule
-behind : {A X Y : Type 0} (f : X → Y) (o : Option (A × List Token)) (k : A × List Token → Option (Y × List Token)) (m : A × List Token → Option (X × List Token)) → ((p : A × List Token) → k p ≡ changed f (m p)) → option_case o None k ≡ changed f (option_case o None m)
+pub behind : {A X Y : Type 0} (f : X → Y) (o : Option (A × List Token)) (k : A × List Token → Option (Y × List Token)) (m : A × List Token → Option (X × List Token)) → ((p : A × List Token) → k p ≡ changed f (m p)) → option_case o None k ≡ changed f (option_case o None m)
 behind f None k m h = refl
 behind f (Some p) k m h = h p
 

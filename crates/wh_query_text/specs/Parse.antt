@@ -1,7 +1,7 @@
 -- How what the code reads has to do with the rules of the grammar.
-use Rattle.std.specs.Prelude.{◌≡◌, ℕ, List, [], ◌∷◌, Option, Some, None, Result, Ok, Err, ⊤}
-use Rattle.wh_lex.specs.declared.token.Token.{Token}
-use Rattle.wh_lex.specs.declared.token.TokenKind.TheVariants as kinds
+use Rattle.std.specs.Prelude.{◌≡◌, List, [], ◌∷◌, Option, Some, None, Result, Ok, Err, ⊤}
+use Rattle.wh_base.specs.declared.tokens.Token.{Token}
+use Rattle.wh_base.specs.declared.tokens.TokenKind.TheVariants as kinds
 use Rattle.wh_query_text.specs.declared.parser.ParseFault.{ParseFault}
 use Rattle.wh_query_text.specs.declared.parser.ParseFault.TheVariants as faults
 
@@ -22,9 +22,3 @@ abbrev pub Takes : Result ⊤ ParseFault → List Token → List Token → Optio
 Takes (Ok u) old left read = read ≡ Some (next_token old, left)
 Takes (Err faults.Memory) old left read = ⊥
 Takes (Err faults.Syntax) old left read = (read ≡ None) × (left ≡ old)
-
--- this text, unless memory ran out
-abbrev pub GivesText : Result (List ℕ) ParseFault → List ℕ → Type 0
-GivesText (Ok text) wanted = text ≡ wanted
-GivesText (Err faults.Memory) wanted = Unit {0}
-GivesText (Err faults.Syntax) wanted = ⊥

@@ -3,7 +3,7 @@ use Rattle.std.specs.Prelude.{◌≡◌, Err, List, Ok, Option, Result, codes, o
 use Rattle.def_grammar.specs.Query.{column, expression, product_or_column}
 use Rattle.def_grammar.specs.Reading.{Rule, bracketed, gives, mark, maybe, name, word, ◌>>=◌, ◌>>◌}
 use Rattle.wh_base.specs.declared.queries.RawExpr.{RawExpr}
-use Rattle.wh_lex.specs.declared.token.Token.{Token}
+use Rattle.wh_base.specs.declared.tokens.Token.{Token}
 use Rattle.wh_query_text.specs.declared.parser.ParseFault.{ParseFault}
 use Rattle.wh_query_text.specs.declared.parser.ParseFault.TheVariants as faults
 

@@ -6,4 +6,3 @@ pub mod parser;
 pub mod query;
 pub mod rule;
 pub mod rules;
-pub mod spelling;

@@ -1,16 +1,18 @@
 ghost use Rattle.std.specs.List.{list_all, list_any};
 ghost use Rattle.std.specs.Prelude.{◌≡◌, ◌-◌, ◌<◌, ◌^◌, IfErr, IfOk, List, length, nat_abs, pos, take, true, unwrap_or};
-ghost use Rattle.def_grammar.specs.Reading.{is_name, is_token, mapped, mark, name, number, quoted, reserved, spelled, token_where, word};
+ghost use Rattle.def_grammar.specs.Reading.{is_name, is_token, mapped, mark, name, number, quoted, reserved, token_where, word};
 ghost use Rattle.wh_base.specs.Lists.{has_text, same_text};
 ghost use Rattle.wh_base.specs.Values.{digits_number};
 ghost use Rattle.wh_lex.specs.Lex.{number_fits, token_fits};
-ghost use Rattle.wh_query_text.specs.Parse.{Gives, GivesText, Takes};
+ghost use Rattle.wh_query_text.specs.Parse.{Gives, Takes};
+ghost use Rattle.wh_query_text.specs.Pieces.{Makes};
 
-use crate::spelling::spelled;
-use std::alloc::Global;
+use std::alloc::{AllocError, Global};
 use std::marker::Model;
+use wh_base::copied::Copied;
+use wh_base::seq::Seq;
+use wh_base::tokens::{Token, TokenKind};
 use wh_base::txt::Txt;
-use wh_lex::token::{Token, TokenKind};
 
 /// Why no rule of the grammar was read.
 #[derive(Clone, Copy, Debug, PartialEq, Eq)]
@@ -33,8 +35,8 @@ impl<'a> Model for Parser<'a> {
     ghost use Rattle.std.specs.Prelude.{◌≡◌, List, true};
     ghost use Rattle.std.specs.Coded.{coded_list};
     ghost use Rattle.wh_lex.specs.Lex.{token_fits};
-    ghost use Rattle.wh_lex.specs.declared.token.Token.{Token};
-    ghost use Rattle.wh_lex.specs.contracts.token.Token.{the_row};
+    ghost use Rattle.wh_base.specs.declared.tokens.Token.{Token};
+    ghost use Rattle.wh_base.specs.contracts.tokens.Token.{the_row};
 
     ghost Value = { List Token };
 
@@ -152,13 +154,13 @@ impl<'a> Parser<'a> {
         }
     }
 
-    /// A text that reads as the tokens between a place and this one.
-    pub fn spelled_since(&self, place: &Parser<'_>) -> Result<Txt, ParseFault>
-        ensures { GivesText result (spelled (take (length place.now - length self.now) place.now)) }
+    /// The tokens between a place and this one. The one fault is want of memory.
+    pub fn tokens_since(&self, place: &Parser<'_>) -> Result<Seq<Token>, ParseFault>
+        ensures { Makes result (take (length place.now - length self.now) place.now) }
     {
         let count = place.rest.len().saturating_sub(self.rest.len());
-        match spelled(self.alloc, &place.rest[..count]) {
-            Ok(text) => Ok(text),
+        match copied(self.alloc, &place.rest[..count]) {
+            Ok(tokens) => Ok(tokens),
             Err(_) => Err(ParseFault::Memory),
         }
     }
@@ -174,6 +176,17 @@ impl<'a> Parser<'a> {
         self.rest = &self.rest[1..];
         Ok(text)
     }
+}
+
+// The same tokens again, in no more memory than they take. An error says that memory ran out.
+fn copied(alloc: Global, tokens: &[Token]) -> Result<Seq<Token>, AllocError>
+    ensures { IfOk result (λ copy. copy ≡ tokens.now) }
+{
+    let mut copy = Vec::with_capacity(alloc, tokens.len())?;
+    for token in tokens {
+        copy.push(token.copied(alloc)?)?;
+    }
+    Seq::from_vec(copy)
 }
 
 /// Whether a word is never a name.
@@ -195,7 +208,7 @@ fn is_one_of(text: &[u8], words: &[&str]) -> bool
 }
 
 /// The words that are never names.
-const RESERVED: [&str; 42] = [
+const RESERVED: [&str; 43] = [
     "SELECT",
     "FROM",
     "WHERE",
@@ -238,6 +251,7 @@ const RESERVED: [&str; 42] = [
     "LEVEL",
     "HIERARCHY",
     "ATTRIBUTE",
+    "DATE",
 ];
 
 /// The number that digits stand for.

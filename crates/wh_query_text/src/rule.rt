@@ -1,12 +1,13 @@
 ghost use Rattle.def_grammar.specs.Reading.{◌>>◌, ◌or◌, bracketed, listed, many, mark, maybe};
 ghost use Rattle.std.specs.Prelude.{◌∷◌, List, Option, codes};
-ghost use Rattle.wh_lex.specs.declared.token.Token.{Token};
+ghost use Rattle.wh_base.specs.declared.tokens.Token.{Token};
 ghost use Rattle.wh_query_text.specs.Parse.{Gives};
 ghost use Rattle.wh_query_text.specs.Pieces.{Makes};
 
 use crate::parser::{ParseFault, Parser};
 use std::alloc::Global;
 use std::marker::PhantomData;
+use wh_base::boxed::Boxed;
 use wh_base::seq::Seq;
 
 /// A rule of the grammar. It is a type without values, so that a rule of rules is a type of types.
@@ -136,6 +137,16 @@ pub fn with_first<T: Drop>(alloc: Global, first: T, more: Seq<T>) -> Result<Seq<
     };
     match Seq::from_vec(items) {
         Ok(items) => Ok(items),
+        Err(_) => Err(ParseFault::Memory),
+    }
+}
+
+/// The value in a block of its own. The one fault is want of memory.
+pub fn boxed<T: Drop>(alloc: Global, value: T) -> Result<Boxed<T>, ParseFault>
+    ensures { Makes result value }
+{
+    match Boxed::new(alloc, value) {
+        Ok(boxed) => Ok(boxed),
         Err(_) => Err(ParseFault::Memory),
     }
 }

@@ -1,7 +1,7 @@
 ghost use Rattle.def_grammar.specs.Reading.{◌>>◌, bracketed, mapped, mark, maybe, name, number, quoted, word};
-ghost use Rattle.def_grammar.specs.Query.{literal, signed};
+ghost use Rattle.def_grammar.specs.Query.{date, literal, signed};
 ghost use Rattle.std.specs.Prelude.{None, Some, codes, neg_ℤ, pos};
-ghost use Rattle.wh_base.specs.declared.statements.RawKind.TheVariants.{Bytes, Digits};
+ghost use Rattle.wh_base.specs.declared.statements.RawKind.TheVariants.{Bytes, Days, Digits};
 ghost use Rattle.wh_base.specs.declared.values.Literal.TheVariants.{Number, Quoted};
 
 use crate::parser::{ParseFault, Parser};
@@ -10,6 +10,7 @@ use wh_base::statements::RawKind;
 use wh_base::txt::Txt;
 use wh_base::values::Literal;
 use wh_base::wide::Wide;
+use wh_date::day_of;
 
 /// A name.
 pub struct PlainName;
@@ -83,8 +84,26 @@ impl Rule for QuotedLiteral {
     }
 }
 
-/// A number or a text.
-pub type AnyLiteral = Either<NumberLiteral, QuotedLiteral>;
+/// DATE and the text of a day. A text that names no day is no literal.
+pub struct DateLiteral;
+
+impl Rule for DateLiteral {
+    type Output = Literal;
+
+    ghost reads = { date };
+
+    fn read(parser: &mut Parser<'_>) -> Result<Literal, ParseFault> {
+        parser.word(b"DATE")?;
+        let text = parser.quoted()?;
+        match day_of(text.as_slice()) {
+            Some(day) => Ok(Literal::Dated(day)),
+            None => Err(ParseFault::Syntax),
+        }
+    }
+}
+
+/// A number, a text or a date.
+pub type AnyLiteral = Either<NumberLiteral, Either<QuotedLiteral, DateLiteral>>;
 
 /// NULL in a row.
 pub struct Null;
@@ -147,5 +166,19 @@ impl Rule for TextKind {
     }
 }
 
+/// DATE.
+pub struct DateKind;
+
+impl Rule for DateKind {
+    type Output = RawKind;
+
+    ghost reads = { mapped (λ t. Days) (word (codes "DATE")) };
+
+    fn read(parser: &mut Parser<'_>) -> Result<RawKind, ParseFault> {
+        parser.word(b"DATE")?;
+        Ok(RawKind::Days)
+    }
+}
+
 /// What a column holds.
-pub type Kind = Either<NumberKind, TextKind>;
+pub type Kind = Either<NumberKind, Either<TextKind, DateKind>>;

@@ -1,6 +1,6 @@
 -- A line of words is its first word and the others behind spaces.
-use Rattle.std.specs.Prelude.{List, None, Option, Some, [], codes, decimal, drop, filter, map, not, ℕ, ◌++◌, ◌∷◌}
-use Rattle.std.proofs.Common.{◌≡◌, ◌≢◌, ap, arith, length, refl, take}
+use Rattle.std.specs.Prelude.{Bool, List, None, Option, Some, [], codes, cond, decimal, drop, false, filter, map, not, slice_index, true, ℕ, ◌++◌, ◌==◌, ◌∷◌}
+use Rattle.std.proofs.Common.{◌≡◌, ◌≢◌, ap, arith, length, refl, subst, sym, take}
 use Rattle.std.proofs.lemmas.Grind.{common_steps}
 use Rattle.wh_base.specs.Lists.{is_empty}
 use Rattle.wh_base.specs.declared.replies.Code.{Code}
@@ -10,7 +10,7 @@ use Rattle.wh_base.specs.declared.replies.Refusal.TheVariants.{NotStar}
 use Rattle.wh_base.specs.declared.statements.Entry.{Entry}
 use Rattle.wh_base.specs.declared.statements.Id.{Id}
 use Rattle.def_transcript.specs.Texts.{at_words, code_text, entry_text, id_text, journal_line, refusal_words, words}
-use Rattle.wh_render.specs.Pieces.{first_word, more_parts, more_words, place_words, spaced}
+use Rattle.wh_render.specs.Pieces.{first_word, more_parts, more_words, statement_words, spaced}
 use Rattle.wh_render.proofs.Parted.{parted-cons}
 
 abbrev pub filled : List (List ℕ) → List (List ℕ)
@@ -35,9 +35,13 @@ unfolding spaced
 spaced-middle [] b bs = refl
 spaced-middle (a ∷ rest) b bs = refl
 
+-- a code has a first byte
+code-cons : (c : Code) → code_text c ≡ slice_index (code_text c) 0 ∷ drop 1 (code_text c)
+code-cons code.F1 = refl
+code-cons _ = refl
+
 pub words-code : (c : Code) (ws : List (List ℕ)) → words (code_text c ∷ ws) ≡ code_text c ++ more_words ws
-words-code (code.F n) ws = words-cons 70 (decimal n) ws
-words-code (code.P n) ws = words-cons 80 (decimal n) ws
+words-code c ws = subst (λ t. words (t ∷ ws) ≡ t ++ more_words ws) (sym (code-cons c)) (words-cons (slice_index (code_text c) 0) (drop 1 (code_text c)) ws)
 
 -- a refusal has a code
 code-first : (r : Refusal) → refusal_words r ≡ first_word (refusal_words r) ∷ drop 1 (refusal_words r)
@@ -45,17 +49,25 @@ code-first NotStar = refl
 code-first _ = refl
 
 -- the place stands between the code and the details
-placed : (at : Option ℕ) (c : List ℕ) (details : List (List ℕ)) → at_words at (c ∷ details) ≡ c ∷ place_words at ++ details
+placed : (at : Option ℕ) (c : List ℕ) (details : List (List ℕ)) → at_words at (c ∷ details) ≡ c ∷ statement_words at ++ details
 placed None c details = refl
 placed (Some i) c details = refl
 
-pub at_words-refusal : (at : Option ℕ) (r : Refusal) → at_words at (refusal_words r) ≡ first_word (refusal_words r) ∷ place_words at ++ drop 1 (refusal_words r)
+pub at_words-refusal : (at : Option ℕ) (r : Refusal) → at_words at (refusal_words r) ≡ first_word (refusal_words r) ∷ statement_words at ++ drop 1 (refusal_words r)
 at_words-refusal at r = rw (code-first r) (placed at (first_word (refusal_words r)) (drop 1 (refusal_words r)))
 
 pub ruleset refusals = (at_words-refusal)
 
+-- the first word of a header, where a session does the command itself or not
+abbrev named : Bool → Id → List ℕ
+named own id = cond own (decimal id.session ++ (46 ∷ decimal id.command)) (codes "JOB " ++ decimal id.worker)
+
+words-named : (own : Bool) (id : Id) (ws : List (List ℕ)) → words (named own id ∷ ws) ≡ named own id ++ more_words ws
+words-named true id ws = words-middle (decimal id.session) 46 (decimal id.command) ws
+words-named false id ws = words-cons 74 (codes "OB " ++ decimal id.worker) ws
+
 pub words-id : (id : Id) (ws : List (List ℕ)) → words (id_text id ∷ ws) ≡ id_text id ++ more_words ws
-words-id id ws = words-middle (decimal id.session) 46 (decimal id.command) ws
+words-id id ws = words-named (id.worker == 0) id ws
 
 pub journal-words : (entries : List Entry) → journal_line entries ≡ codes "journal" ++ more_words (map entry_text entries)
 journal-words entries = words-cons 106 (codes "ournal") (map entry_text entries)

@@ -26,9 +26,9 @@ first_word [] = []
 first_word (w ∷ ws) = w
 
 -- the words that say which statement of a block is refused
-abbrev pub place_words : Option ℕ → List (List ℕ)
-place_words None = []
-place_words (Some i) = codes "AT" ∷ decimal i ∷ []
+abbrev pub statement_words : Option ℕ → List (List ℕ)
+statement_words None = []
+statement_words (Some i) = codes "AT" ∷ decimal i ∷ []
 
 -- what SHOW VIEW says of the view itself
 abbrev pub view_words : ShownView → List (List ℕ)

@@ -8,8 +8,8 @@ use crate::refusals::{push_details, push_place, refusal_code};
 use crate::words::{push_count, push_named, push_point, push_word, yes_or_no};
 use std::alloc::AllocError;
 use wh_base::replies::{
-    Answered, Committed, Done, ExplainedQuery, ExplainedView, Purged, RefreshDone, Refused, Reply,
-    ShownLog, ShownView, Validated,
+    Answered, Committed, Done, ExplainedQuery, ExplainedView, ListDone, Purged, RefreshDone,
+    Refused, Reply, ShownLog, ShownView, Validated,
 };
 
 fn push_committed(out: &mut Vec<u8>, reply: &Committed) -> Result<(), AllocError>
@@ -65,6 +65,27 @@ fn push_refreshed(out: &mut Vec<u8>, reply: &RefreshDone) -> Result<(), AllocErr
     push_count(out, b"SCN", reply.scn)?;
     push_count(out, b"READ", reply.read)?;
     push_count(out, b"HOLDS", reply.holds)?;
+    Ok(())
+}
+
+fn push_refreshed_list(out: &mut Vec<u8>, reply: &ListDone) -> Result<(), AllocError>
+    ensures { OnOk result (out.new.items
+        ≡ out.old.items ++ more_words (body_words (replies.RefreshList reply.now))) }
+{
+    push_named(out, b"REFRESHED", b"LIST")?;
+    push_count(out, b"SCN", reply.scn)?;
+    push_count(out, b"READ", reply.read)?;
+    push_count(out, b"VIEWS", reply.views.len())?;
+    Ok(())
+}
+
+/// A refresh was handed to the workers.
+fn push_submitted(out: &mut Vec<u8>) -> Result<(), AllocError>
+    ensures { OnOk result (out.new.items
+        ≡ out.old.items ++ more_words (body_words replies.Submit)) }
+{
+    push_word(out, b"SUBMITTED")?;
+    push_count(out, b"READ", 0u64)?;
     Ok(())
 }
 
@@ -149,7 +170,7 @@ fn push_refused(out: &mut Vec<u8>, reply: &Refused) -> Result<(), AllocError>
     Ok(())
 }
 
-/// The header's words after the session and the command.
+/// The header's words after the session and the command, or after the worker of a job.
 pub fn push_body(out: &mut Vec<u8>, reply: &Reply) -> Result<(), AllocError>
     ensures { OnOk result (out.new.items ≡ out.old.items ++ more_words (body_words reply.now)) }
 {
@@ -165,5 +186,7 @@ pub fn push_body(out: &mut Vec<u8>, reply: &Reply) -> Result<(), AllocError>
         Reply::Rewrite(explained) => push_rewrite(out, explained),
         Reply::Validate(validated) => push_validated(out, validated),
         Reply::Refuse(refused) => push_refused(out, refused),
+        Reply::RefreshList(done) => push_refreshed_list(out, done),
+        Reply::Submit => push_submitted(out),
     }
 }

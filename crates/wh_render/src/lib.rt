@@ -1,4 +1,4 @@
-//! The text of replies, and the line of a journal.
+//! The text of replies in each version of transcripts, and the line of a journal.
 #![tactic(auto)]
 
 mod bodies;
@@ -9,4 +9,4 @@ mod refusals;
 mod replies;
 mod words;
 
-pub use replies::{journal_text, push_journal, push_reply, reply_text};
+pub use replies::{journal_text, push_first_line, push_journal, push_reply, reply_text};

@@ -1,17 +1,17 @@
-ghost use Rattle.std.specs.Prelude.{◌≡◌, ◌++◌, ◌∷◌, List, OnOk, [], codes, decimal, length, map, ℕ, ◌<◌, slice_get, Some, zip};
+ghost use Rattle.std.specs.Prelude.{◌≡◌, ◌++◌, ◌∷◌, List, OnOk, [], decimal, length, map, ℕ, ◌<◌, slice_get, Some, zip};
 ghost use Rattle.wh_base.specs.Lists.{option_case};
 ghost use Rattle.wh_base.specs.Values.{value_text};
-ghost use Rattle.def_transcript.specs.Texts.{bound_text, broken_text, class_text, explain_line, explain_names, interval_text, lines_after, lines_text, log_row_text, number_field, op_text, reason_text, refreshed_text, side_text, verdict_text, view_line_text};
+ghost use Rattle.def_transcript.specs.Texts.{bound_text, broken_text, explain_line, explain_names, interval_text, lines_after, lines_text, list_line_text, log_row_text, number_field, op_text, reason_text, refreshed_text, side_text, verdict_text, view_line_text};
 
-use crate::fields::{Printed, push_lines, push_more};
-use crate::plans::{class_text, method_text};
+use crate::fields::{Printed, Versioned, push_lines, push_lines_in, push_value, push_values};
+use crate::plans::{method_text, requirement_text, serving_text};
 use crate::words::{push_number, push_printed};
 use itoa::Integer;
 use std::alloc::AllocError;
 use wh_base::logs::{LogOp, LogRow, LogSide};
-use wh_base::replies::{Broken, Reason, Refreshed, Reply, ViewLine};
-use wh_base::values::{Interval, Value};
-use wh_base::views::{Class, Verdict};
+use wh_base::replies::{Broken, ListLine, Reason, Refreshed, Reply, ViewLine};
+use wh_base::values::{Interval, Value, Version};
+use wh_base::views::Verdict;
 
 /// What a commit did with a view.
 impl Printed for Refreshed {
@@ -44,25 +44,25 @@ impl Printed for ViewLine {
 }
 
 /// A bound, and nothing where there is none.
-fn push_bound(out: &mut Vec<u8>, bound: &Option<Value>) -> Result<(), AllocError>
-    ensures { OnOk result (out.new.items ≡ out.old.items ++ bound_text bound.now) }
+fn push_bound(out: &mut Vec<u8>, version: Version, bound: &Option<Value>) -> Result<(), AllocError>
+    ensures { OnOk result (out.new.items ≡ out.old.items ++ bound_text version bound.now) }
 {
     match bound {
         Some(value) => {
-            value.push_text(out)?;
+            push_value(out, version, value)?;
             Ok(())
         }
         None => Ok(()),
     }
 }
 
-impl Printed for Interval {
+impl Versioned for Interval {
     ghost text = { interval_text };
 
-    fn push_text(&self, out: &mut Vec<u8>) -> Result<(), AllocError> {
-        push_bound(out, &self.lo)?;
+    fn push_text_in(&self, out: &mut Vec<u8>, version: Version) -> Result<(), AllocError> {
+        push_bound(out, version, &self.lo)?;
         out.push(b'|')?;
-        push_bound(out, &self.hi)?;
+        push_bound(out, version, &self.hi)?;
         Ok(())
     }
 }
@@ -122,14 +122,27 @@ fn push_log_numbers(out: &mut Vec<u8>, row: &LogRow) -> Result<(), AllocError>
     Ok(())
 }
 
-impl Printed for LogRow {
+impl Versioned for LogRow {
     ghost text = { log_row_text };
 
-    fn push_text(&self, out: &mut Vec<u8>) -> Result<(), AllocError> {
+    fn push_text_in(&self, out: &mut Vec<u8>, version: Version) -> Result<(), AllocError> {
         push_log_numbers(out, self)?;
         push_field(out, op_text(self.op))?;
         push_field(out, side_text(self.side))?;
-        push_more(out, b'|', self.values.as_slice())?;
+        push_values(out, version, self.values.as_slice())?;
+        Ok(())
+    }
+}
+
+/// What the refresh of a list did with one of its views.
+impl Printed for ListLine {
+    ghost text = { list_line_text };
+
+    fn push_text(&self, out: &mut Vec<u8>) -> Result<(), AllocError> {
+        out.extend_from_slice(self.view.as_slice())?;
+        push_field(out, method_text(self.method))?;
+        out.push(b'|')?;
+        push_number(out, self.holds)?;
         Ok(())
     }
 }
@@ -143,36 +156,14 @@ impl Printed for Reason {
                 restriction.push_text(out)?;
                 Ok(())
             }
-            Reason::Rewrite(number) => {
-                push_failed(out, *number)?;
+            Reason::Rewrite(requirement) => {
+                out.extend_from_slice(requirement_text(*requirement).as_bytes())?;
                 Ok(())
             }
-        }
-    }
-}
-
-/// The condition of a rewrite that fails.
-fn push_failed(out: &mut Vec<u8>, number: u32) -> Result<(), AllocError>
-    ensures { OnOk result (out.new.items ≡ out.old.items ++ (codes "E" ++ decimal number)) }
-{
-    out.push(b'E')?;
-    push_number(out, number)?;
-    Ok(())
-}
-
-/// A class, or the condition that fails.
-fn push_class(out: &mut Vec<u8>, class: Option<Class>, failed: u32) -> Result<(), AllocError>
-    ensures { OnOk result (out.new.items
-        ≡ out.old.items ++ option_case class (codes "E" ++ decimal failed) class_text) }
-{
-    match class {
-        Some(class) => {
-            out.extend_from_slice(class_text(class).as_bytes())?;
-            Ok(())
-        }
-        None => {
-            push_failed(out, failed)?;
-            Ok(())
+            Reason::Nested => {
+                out.extend_from_slice(b"MV-31")?;
+                Ok(())
+            }
         }
     }
 }
@@ -182,8 +173,7 @@ impl Printed for Verdict {
 
     fn push_text(&self, out: &mut Vec<u8>) -> Result<(), AllocError> {
         out.extend_from_slice(self.view.as_slice())?;
-        out.push(b'|')?;
-        push_class(out, self.class, self.failed)?;
+        push_field(out, serving_text(self.serving))?;
         Ok(())
     }
 }
@@ -255,21 +245,31 @@ fn push_explain_lines(out: &mut Vec<u8>, reasons: &[Option<Reason>]) -> Result<(
 }
 
 /// The lines after the header.
-pub fn push_lines_after(out: &mut Vec<u8>, reply: &Reply) -> Result<(), AllocError>
-    ensures { OnOk result (out.new.items ≡ out.old.items ++ lines_text (lines_after reply.now)) }
+pub fn push_lines_after(
+    out: &mut Vec<u8>,
+    version: Version,
+    reply: &Reply,
+) -> Result<(), AllocError>
+    ensures { OnOk result (out.new.items
+        ≡ out.old.items ++ lines_text (lines_after version reply.now)) }
 {
     match reply {
         Reply::Commit(committed) => push_lines(out, committed.views.as_slice())?,
-        Reply::Answer(answered) => push_lines(out, answered.rows.as_slice())?,
+        Reply::Answer(answered) => push_lines_in(out, version, answered.rows.as_slice())?,
         Reply::View(shown) => {
-            push_lines(out, shown.intervals.as_slice())?;
-            push_lines(out, shown.rows.as_slice())?;
+            push_lines_in(out, version, shown.intervals.as_slice())?;
+            push_lines_in(out, version, shown.rows.as_slice())?;
         }
-        Reply::Log(shown) => push_lines(out, shown.rows.as_slice())?,
+        Reply::Log(shown) => push_lines_in(out, version, shown.rows.as_slice())?,
         Reply::Explain(explained) => push_explain_lines(out, explained.lines.as_slice())?,
         Reply::Rewrite(explained) => push_lines(out, explained.verdicts.as_slice())?,
         Reply::Validate(validated) => push_lines(out, validated.broken.as_slice())?,
-        Reply::Catalog(_) | Reply::Purge(_) | Reply::Refresh(_) | Reply::Refuse(_) => {}
+        Reply::RefreshList(done) => push_lines(out, done.views.as_slice())?,
+        Reply::Catalog(_)
+        | Reply::Purge(_)
+        | Reply::Refresh(_)
+        | Reply::Refuse(_)
+        | Reply::Submit => {}
     }
     Ok(())
 }

@@ -1,5 +1,5 @@
 ghost use Rattle.std.specs.Prelude.{◌≡◌, ◌++◌, ◌∷◌, OnOk, decimal};
-ghost use Rattle.def_transcript.specs.Texts.{class_text, method_text, plan_words, state_text};
+ghost use Rattle.def_transcript.specs.Texts.{class_text, method_text, plan_words, requirement_text, serving_text, state_text};
 ghost use Rattle.wh_render.specs.Pieces.{more_words, spaced};
 
 use crate::words::{push_named, push_number, push_printed};
@@ -7,7 +7,7 @@ use std::alloc::AllocError;
 use wh_base::replies::PlanLine;
 use wh_base::statements::Method;
 use wh_base::txt::Txt;
-use wh_base::views::{Class, ViewState};
+use wh_base::views::{Class, Requirement, Serving, ViewState};
 
 /// The name of a method of refresh.
 pub fn method_text(method: Method) -> &'static str
@@ -22,7 +22,7 @@ pub fn method_text(method: Method) -> &'static str
 }
 
 /// The name of a class of rewrite.
-pub fn class_text(class: Class) -> &'static str
+fn class_text(class: Class) -> &'static str
     ensures { result.now ≡ class_text class }
 {
     match class {
@@ -30,6 +30,34 @@ pub fn class_text(class: Class) -> &'static str
         Class::Partial => "PARTIAL",
         Class::General => "GENERAL",
         Class::JoinBack => "JOINBACK",
+        Class::Concat => "CONCAT",
+    }
+}
+
+/// The name of a requirement of rewrite.
+pub fn requirement_text(requirement: Requirement) -> &'static str
+    ensures { result.now ≡ requirement_text requirement }
+{
+    match requirement {
+        Requirement::E1 => "E1",
+        Requirement::E2 => "E2",
+        Requirement::E3 => "E3",
+        Requirement::E4 => "E4",
+        Requirement::E5 => "E5",
+        Requirement::E6 => "E6",
+        Requirement::E7 => "E7",
+        Requirement::E8 => "E8",
+        Requirement::E9 => "E9",
+    }
+}
+
+/// The name of the class in which a view answers, or of the requirement that it fails.
+pub fn serving_text(serving: Serving) -> &'static str
+    ensures { result.now ≡ serving_text serving }
+{
+    match serving {
+        Serving::Serves(class) => class_text(class),
+        Serving::Fails(requirement) => requirement_text(requirement),
     }
 }
 

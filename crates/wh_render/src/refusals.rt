@@ -1,42 +1,56 @@
 ghost use Rattle.std.specs.Prelude.{◌≡◌, ◌++◌, OnOk, decimal, drop};
 ghost use Rattle.wh_base.specs.Values.{int_text};
-ghost use Rattle.def_transcript.specs.Texts.{code_text, counted_text, point_text, refusal_words, restricted_text};
-ghost use Rattle.wh_render.specs.Pieces.{first_word, more_words, place_words, spaced};
+ghost use Rattle.def_transcript.specs.Texts.{code_text, counted_text, place_words, point_text, refusal_words, restricted_text};
+ghost use Rattle.wh_render.specs.Pieces.{first_word, more_words, spaced, statement_words};
 
 use crate::fields::Printed;
-use crate::words::{
-    push_count, push_number, push_number_word, push_point, push_printed, push_word,
-};
+use crate::words::{push_count, push_number_word, push_point, push_printed, push_word};
 use std::alloc::AllocError;
-use wh_base::replies::{Code, Counted, Refusal, Restricted};
+use wh_base::replies::{Code, Counted, Place, Refusal, Restricted};
 use wh_base::txt::Txt;
 
-impl Printed for Code {
-    ghost text = { code_text };
-
-    fn push_text(&self, out: &mut Vec<u8>) -> Result<(), AllocError> {
-        match self {
-            Code::F(number) => {
-                out.push(b'F')?;
-                push_number(out, *number)?;
-                Ok(())
-            }
-            Code::P(number) => {
-                out.push(b'P')?;
-                push_number(out, *number)?;
-                Ok(())
-            }
-        }
+/// The code of a restriction.
+fn code_text(code: Code) -> &'static str
+    ensures { result.now ≡ code_text code }
+{
+    match code {
+        Code::F1 => "F1",
+        Code::F2 => "F2",
+        Code::F3 => "F3",
+        Code::F4 => "F4",
+        Code::F5 => "F5",
+        Code::F6 => "F6",
+        Code::F7 => "F7",
+        Code::F8 => "F8",
+        Code::F9 => "F9",
+        Code::F10 => "F10",
+        Code::F11 => "F11",
+        Code::F12 => "F12",
+        Code::F13 => "F13",
+        Code::P1 => "P1",
+        Code::P2 => "P2",
+        Code::P3 => "P3",
     }
+}
+
+/// The names that a restriction has.
+fn push_restricted_place(out: &mut Vec<u8>, place: &Place) -> Result<(), AllocError>
+    ensures { OnOk result (out.new.items ≡ out.old.items ++ more_words (place_words place.now)) }
+{
+    match place {
+        Place::View => {}
+        Place::Table(table) => push_name(out, table)?,
+        Place::Column(table, column) => push_names(out, table, column)?,
+    }
+    Ok(())
 }
 
 impl Printed for Restricted {
     ghost text = { restricted_text };
 
     fn push_text(&self, out: &mut Vec<u8>) -> Result<(), AllocError> {
-        self.code.push_text(out)?;
-        push_word(out, self.table.as_slice())?;
-        push_word(out, self.column.as_slice())?;
+        out.extend_from_slice(code_text(self.code).as_bytes())?;
+        push_restricted_place(out, &self.place)?;
         Ok(())
     }
 }
@@ -88,6 +102,8 @@ pub fn refusal_code(refusal: &Refusal) -> &'static str
         Refusal::NotAKey(_, _) => "MV-27",
         Refusal::StillUsed(_) => "MV-28",
         Refusal::OnlyReading => "MV-29",
+        Refusal::BeneathUnbuilt(_) => "MV-30",
+        Refusal::NotNested(_) => "MV-31",
     }
 }
 
@@ -124,7 +140,9 @@ pub fn push_details(out: &mut Vec<u8>, refusal: &Refusal) -> Result<(), AllocErr
         | Refusal::VersionsFull(name)
         | Refusal::NoLog(name)
         | Refusal::LogExists(name)
-        | Refusal::StillUsed(name) => push_name(out, name)?,
+        | Refusal::StillUsed(name)
+        | Refusal::BeneathUnbuilt(name)
+        | Refusal::NotNested(name) => push_name(out, name)?,
         Refusal::ValueDoesNotFit(table, column)
         | Refusal::NullNotAllowed(table, column)
         | Refusal::DuplicateKey(table, column)
@@ -174,7 +192,7 @@ fn push_scns(out: &mut Vec<u8>, asked: i128, scn: u64) -> Result<(), AllocError>
 
 /// The number of the refused statement in its block.
 pub fn push_place(out: &mut Vec<u8>, at: Option<u32>) -> Result<(), AllocError>
-    ensures { OnOk result (out.new.items ≡ out.old.items ++ more_words (place_words at)) }
+    ensures { OnOk result (out.new.items ≡ out.old.items ++ more_words (statement_words at)) }
 {
     match at {
         Some(number) => push_count(out, b"AT", number),

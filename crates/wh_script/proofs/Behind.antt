@@ -1,9 +1,10 @@
 -- What stands behind the end of a script, and a script without an end.
 use Rattle.std.proofs.Common.{◌≡◌, ℕ, ◌≤◌, ◌<◌, ◌+◌, ◌-◌, suc, List, [], ◌∷◌, length, drop, get_or, Bool, true, false, Option, Some, None, cond, is_none, refl, ap, sym, ◌∙◌, arith, ◌&&◌, ◌||◌, add-zero, max}
+use Rattle.std.proofs.lemmas.Bool.{and_from, and_parts}
 use Rattle.std.proofs.lemmas.List.{drop_all, drop_more, get_or-drop}
 use Rattle.std.proofs.lemmas.Str.{utf8_valid_len_le, utf8_valid_len-IsUtf8}
 use Rattle.std.specs.Prelude.{◌==◌, count_by, not, unwrap_or}
-use Rattle.def_built.specs.Form.{draft_is_built, script_is_built, sections_are_built}
+use Rattle.def_built.specs.Form.{draft_is_built, script_is_built, sections_are_built, views_are_built}
 use Rattle.def_built.specs.Forms.{is_built}
 use Rattle.def_built.specs.declared.forms.Form.TheVariants as forms
 use Rattle.def_grammar.specs.Lines.{lines_of, before_last, onto_first, placed_lines, raw_lines}
@@ -12,6 +13,7 @@ use Rattle.wh_base.specs.Lists.{is_empty, where_true}
 use Rattle.wh_base.specs.declared.statements.Script.{Script}
 use Rattle.wh_script.proofs.Counts.{count_by-append}
 use Rattle.wh_script.proofs.Ends.{before_last-take}
+use Rattle.wh_script.specs.Built.{parts_are_built}
 use Rattle.wh_script.specs.Pieces.{is_white_before}
 
 -- ---- white space
@@ -41,33 +43,25 @@ pub ruleset valid = (utf8_valid_len_le, utf8_valid_len-IsUtf8)
 
 -- ---- the script that was read
 
-first_part : (p q : Bool) → (p && q) ≡ true → p ≡ true
-first_part true q h = refl
-first_part false q h = h
-
-second_part : (p q : Bool) → (p && q) ≡ true → q ≡ true
-second_part true q h = h
-second_part false q h = cc
-
 or_there : (p q : Bool) → q ≡ true → (p || q) ≡ true
 or_there true q h = refl
 or_there false q h = h
 
 -- a draft that is built makes a script that is built
-finished : (d : Draft) → draft_is_built d ≡ true → script_is_built (record { sections = sections_of d; order = unwrap_or d.order [] }) ≡ true
-finished d h = by_order d.order h
+pub finish-built : (d : Draft) (s : Script) → s ≡ record { sections = sections_of d; order = unwrap_or d.order []; workers = unwrap_or d.workers 0 } → draft_is_built d ≡ true → script_is_built s ≡ true
+finish-built d s e h =
+    let both = and_parts (sections_are_built (sections_of d) && views_are_built (sections_of d)) (parts_are_built d) h in
+    let parts = and_parts (is_none d.block || is_built forms.Block) ((is_none d.order || is_built forms.Order) && (is_none d.workers || is_built forms.Workers)) both.1 in
+    let last = and_parts (is_none d.order || is_built forms.Order) (is_none d.workers || is_built forms.Workers) parts.1 in
+    rw e (and_from _ _ both.0 (and_from _ _ (by_order d.order last.0) (by_workers d.workers last.1)))
   where
-    by_order : (o : Option (List ℕ)) → (sections_are_built (sections_of d) && ((is_none d.block || is_built forms.Block) && (is_none o || is_built forms.Order))) ≡ true → (sections_are_built (sections_of d) && (is_empty (unwrap_or o []) || is_built forms.Order)) ≡ true
-    by_order None h =
-        let sections : sections_are_built (sections_of d) ≡ true = first_part (sections_are_built (sections_of d)) ((is_none d.block || is_built forms.Block) && true) h in
-        rw sections refl
-    by_order (Some ns) h =
-        let rest : ((is_none d.block || is_built forms.Block) && is_built forms.Order) ≡ true = second_part (sections_are_built (sections_of d)) ((is_none d.block || is_built forms.Block) && is_built forms.Order) h in
-        let sections : sections_are_built (sections_of d) ≡ true = first_part (sections_are_built (sections_of d)) ((is_none d.block || is_built forms.Block) && is_built forms.Order) h in
-        rw sections (or_there (is_empty ns) (is_built forms.Order) (second_part (is_none d.block || is_built forms.Block) (is_built forms.Order) rest))
+    by_order : (o : Option (List ℕ)) → (is_none o || is_built forms.Order) ≡ true → (is_empty (unwrap_or o []) || is_built forms.Order) ≡ true
+    by_order None k = refl
+    by_order (Some ns) k = or_there (is_empty ns) (is_built forms.Order) k
 
-pub finish-built : (d : Draft) (s : Script) → s ≡ record { sections = sections_of d; order = unwrap_or d.order [] } → draft_is_built d ≡ true → script_is_built s ≡ true
-finish-built d s e h = rw e (finished d h)
+    by_workers : (o : Option ℕ) → (is_none o || is_built forms.Workers) ≡ true → ((unwrap_or o 0 == 0) || is_built forms.Workers) ≡ true
+    by_workers None k = refl
+    by_workers (Some n) k = or_there (n == 0) (is_built forms.Workers) k
 
 pub ruleset finishes = (finish-built)
 

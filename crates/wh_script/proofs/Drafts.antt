@@ -1,7 +1,11 @@
 -- The steps of a draft.
-use Rattle.std.proofs.Common.{◌≡◌, ℕ, List, None, Result, Some}
-use Rattle.def_grammar.specs.Script.{Draft, OpenBlockAt, take_closed, take_inner}
-use Rattle.wh_lex.specs.declared.token.Token.{Token}
+use Rattle.std.proofs.Common.{◌≡◌, ℕ, Err, List, None, Ok, Result, Some, cond}
+use Rattle.def_grammar.specs.Forms.{submit_of}
+use Rattle.def_grammar.specs.Script.{Draft, OpenBlockAt, bad, in_setup, take_closed, take_command, take_inner, take_own, with_command}
+use Rattle.wh_base.specs.declared.statements.Command.TheVariants as commands
+use Rattle.wh_base.specs.declared.statements.ScriptKind.TheVariants.{Misplaced}
+use Rattle.wh_base.specs.declared.statements.Statement.{Statement}
+use Rattle.wh_base.specs.declared.tokens.Token.{Token}
 use Rattle.wh_script.specs.Sections.{Gives}
 use Rattle.wh_script.specs.declared.fault.ScriptFault.{ScriptFault}
 
@@ -10,3 +14,12 @@ pub closed-inner : (r : Result Draft ScriptFault) (d : Draft) (b : OpenBlockAt) 
 closed-inner r d b line ts e h = rw e h
 
 pub ruleset blocks = (closed-inner)
+
+-- a statement outside blocks that submits nothing, and one that does
+pub command-own : (r : Result Draft ScriptFault) (d : Draft) (line : ℕ) (ts : List Token) → submit_of ts ≡ None → Gives r (take_own d line ts) → Gives r (take_command d line ts)
+command-own r d line ts e h = rw e h
+
+pub command-submit : (r : Result Draft ScriptFault) (d : Draft) (line : ℕ) (ts : List Token) (s : Statement) → submit_of ts ≡ Some s → Gives r (cond (in_setup d) (Err (bad line Misplaced)) (Ok (with_command d (commands.Submit s)))) → Gives r (take_command d line ts)
+command-submit r d line ts s e h = rw e h
+
+pub ruleset submits = (command-own, command-submit)

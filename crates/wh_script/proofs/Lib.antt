@@ -10,9 +10,10 @@ pub mod LineRuns
 pub mod LoadLines
 pub mod Behind
 pub mod Walks
-pub mod Names
 pub mod LastCommands
 pub mod Steps
 pub mod Cuts
 pub mod Before
 pub mod Texts
+pub mod Nesting
+pub mod Setups

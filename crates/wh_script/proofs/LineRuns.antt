@@ -3,7 +3,7 @@ use Rattle.std.proofs.Common.{◌≡◌, ℕ, ◌≤◌, ◌<◌, ◌+◌, ◌-�
 use Rattle.std.proofs.Math.Seq.{take-add}
 use Rattle.std.proofs.lemmas.List.{drop-drop, drop_all, length-take-le}
 use Rattle.std.specs.Prelude.{◌==◌, count_by}
-use Rattle.def_grammar.specs.Lines.{Directive, DirectiveAt, EndAt, EndLoad, EndScript, InLoad, Line, LoadBlock, LoadOf, Order, Piece, SessionAt, Setup, TextRun, Unknown, directive_on, directive_piece, load_piece, onto_first, pieces_from, placed_lines, raw_lines, text_onto}
+use Rattle.def_grammar.specs.Lines.{Directive, DirectiveAt, EndAt, EndLoad, EndScript, InLoad, Line, LoadBlock, LoadOf, Order, Piece, SessionAt, Setup, TextRun, Unknown, WorkersAt, directive_on, directive_piece, load_piece, onto_first, pieces_from, placed_lines, raw_lines, text_onto}
 use Rattle.def_grammar.specs.Script.{line_at}
 use Rattle.wh_base.specs.Lists.{head, option_nat_is}
 use Rattle.wh_script.proofs.Counts.{count_by-append}
@@ -177,6 +177,7 @@ directive-begins l (LoadOf n) ls = in_load-begins ls l n []
 directive-begins l EndLoad ls = refl
 directive-begins l EndScript ls = refl
 directive-begins l Unknown ls = refl
+directive-begins l (WorkersAt w) ls = refl
 
 -- the pieces from a directive line on
 pub pieces-directive : (bytes : List ℕ) (place : ℕ) → place < length bytes → text_len true (drop place bytes) ≡ 0 → pieces_at bytes place ≡ directive_piece (line_of bytes place) (directive_on (line_of bytes place)) (lines_at bytes (behind_line bytes place)) (pieces_from (lines_at bytes (behind_line bytes place)))

@@ -1,39 +1,40 @@
 -- The words of an order, the parts of a session, and how often each is named.
-use Rattle.std.proofs.Common.{◌≡◌, ℕ, ◌<◌, ◌+◌, suc, zero, List, [], ◌∷◌, ◌++◌, length, Bool, true, false, Some, None, cond, refl, ap, sym, subst, ◌∙◌, arith, append-nil, append_assoc, ◌⊎◌, get_or, inl, inr, Result, Err}
+use Rattle.std.proofs.Common.{◌≡◌, ℕ, ◌<◌, ◌+◌, suc, zero, List, [], ◌∷◌, ◌++◌, length, Bool, true, false, Some, None, Ok, cond, refl, ap, sym, subst, ◌∙◌, arith, append-nil, append_assoc, ◌⊎◌, get_or, inl, inr, Result, Err}
 use Rattle.std.proofs.lemmas.Bool.{ltb-true}
 use Rattle.std.proofs.lemmas.Bool.Decides.{nat_tests}
 use Rattle.std.specs.List.{enumerate_from, list_any}
 use Rattle.std.specs.Prelude.{◌==◌, ◌&&◌, ◌||◌, count_by, flat_map, is_none, map, not, option_to_list}
 use Rattle.def_grammar.specs.Lines.{words_in}
-use Rattle.def_grammar.specs.Script.{Draft, bad, is_section_of, is_too_long, is_unknown, order_by, order_fault, parts_in, sections_of, session_number, with_order}
+use Rattle.def_grammar.specs.Script.{Draft, bad, is_section_of, is_too_long, is_unknown, order_by, order_fault, parts_in, sections_of, session_number, with_order, word_fault, words_fault}
 use Rattle.wh_base.specs.Lists.{count_from, unless}
 use Rattle.wh_base.specs.Parts.{command_entries, parts_of}
 use Rattle.wh_base.specs.declared.statements.Command.{Command}
-use Rattle.wh_base.specs.declared.statements.ScriptKind.TheVariants.{SessionNumber}
+use Rattle.wh_base.specs.declared.statements.ScriptKind.{ScriptKind}
 use Rattle.wh_base.specs.declared.statements.Section.{Section}
 use Rattle.wh_script.proofs.Counts.{count_by-append}
 use Rattle.wh_script.specs.Drafts.{is_named_too_often, numbers_behind}
 use Rattle.wh_script.specs.Sections.{Gives}
 use Rattle.wh_script.specs.declared.fault.ScriptFault.{ScriptFault}
+use Rattle.wh_script.specs.declared.fault.ScriptFault.TheVariants as faults
 
-none_here : (done w : List ℕ) (ws : List (List ℕ)) → session_number w ≡ None → None ≡ numbers_behind done (w ∷ ws)
-none_here done w ws e = rw e refl
+none_here : (line : ℕ) (done w : List ℕ) (ws : List (List ℕ)) → session_number w ≡ None → numbers_behind line done (w ∷ ws) ≡ Err (bad line (word_fault w))
+none_here line done w ws e = rw e refl
 
-some_here : (done w : List ℕ) (ws : List (List ℕ)) (n : ℕ) → session_number w ≡ Some n → numbers_behind (done ++ n ∷ []) ws ≡ numbers_behind done (w ∷ ws)
-some_here done w ws n e = rw e (by_test (list_any is_none (map session_number ws)))
+some_here : (line : ℕ) (done w : List ℕ) (ws : List (List ℕ)) (n : ℕ) → session_number w ≡ Some n → numbers_behind line (done ++ n ∷ []) ws ≡ numbers_behind line done (w ∷ ws)
+some_here line done w ws n e = rw e (by_test (list_any is_none (map session_number ws)))
   where
-    by_test : (t : Bool) → cond t None (Some ((done ++ n ∷ []) ++ flat_map option_to_list (map session_number ws))) ≡ cond t None (Some (done ++ n ∷ flat_map option_to_list (map session_number ws)))
+    by_test : (t : Bool) → cond t (Err (bad line (words_fault ws))) (Ok ((done ++ n ∷ []) ++ flat_map option_to_list (map session_number ws))) ≡ cond t (Err (bad line (words_fault ws))) (Ok (done ++ n ∷ flat_map option_to_list (map session_number ws)))
     by_test true = refl
-    by_test false = ap Some (append_assoc done (n ∷ []) (flat_map option_to_list (map session_number ws)))
+    by_test false = ap Ok (append_assoc done (n ∷ []) (flat_map option_to_list (map session_number ws)))
 
-pub numbers-none : (done bs w rest : List ℕ) → words_in bs ≡ w ∷ words_in rest → session_number w ≡ None → None ≡ numbers_behind done (words_in bs)
-numbers-none done bs w rest e n = none_here done w (words_in rest) n ∙ ap (numbers_behind done) (sym e)
+pub numbers-none : (line : ℕ) (done bs w rest : List ℕ) (kind : ScriptKind) → words_in bs ≡ w ∷ words_in rest → session_number w ≡ None → kind ≡ word_fault w → numbers_behind line done (words_in bs) ≡ Err (bad line kind)
+numbers-none line done bs w rest kind e n k = ap (numbers_behind line done) e ∙ none_here line done w (words_in rest) n ∙ ap (λ x. Err (bad line x)) (sym k)
 
-pub numbers-some : (done bs w rest : List ℕ) (n : ℕ) → words_in bs ≡ w ∷ words_in rest → session_number w ≡ Some n → numbers_behind (done ++ n ∷ []) (words_in rest) ≡ numbers_behind done (words_in bs)
-numbers-some done bs w rest n e f = some_here done w (words_in rest) n f ∙ ap (numbers_behind done) (sym e)
+pub numbers-some : (line : ℕ) (done bs w rest : List ℕ) (n : ℕ) → words_in bs ≡ w ∷ words_in rest → session_number w ≡ Some n → numbers_behind line (done ++ n ∷ []) (words_in rest) ≡ numbers_behind line done (words_in bs)
+numbers-some line done bs w rest n e f = some_here line done w (words_in rest) n f ∙ ap (numbers_behind line done) (sym e)
 
-pub numbers-end : (done bs : List ℕ) → words_in bs ≡ [] → Some done ≡ numbers_behind done (words_in bs)
-numbers-end done bs e = ap Some (sym (append-nil done)) ∙ ap (numbers_behind done) (sym e)
+pub numbers-end : (line : ℕ) (done bs : List ℕ) → words_in bs ≡ [] → numbers_behind line done (words_in bs) ≡ Ok done
+numbers-end line done bs e = ap (numbers_behind line done) e ∙ ap Ok (append-nil done)
 
 pub ruleset numbers = (numbers-none, numbers-some, numbers-end)
 
@@ -162,20 +163,21 @@ pub ruleset sections = (too_long-by_section)
 
 -- ---- the step
 
-pub order-gives : (r : Result Draft ScriptFault) (d : Draft) (line : ℕ) (ns : List ℕ) (ws : List (List ℕ)) → Some ns ≡ numbers_behind [] ws → Gives r (unless (order_fault (sections_of d) line ns) (with_order d ns)) → Gives r (order_by d line (map session_number ws))
+pub order-gives : (r : Result Draft ScriptFault) (d : Draft) (line : ℕ) (ns : List ℕ) (ws : List (List ℕ)) → numbers_behind line [] ws ≡ Ok ns → Gives r (unless (order_fault (sections_of d) line ns) (with_order d ns)) → Gives r (order_by d line (words_fault ws) (map session_number ws))
 order-gives r d line ns ws e h = by_test (list_any is_none (map session_number ws)) e
   where
-    by_test : (t : Bool) → Some ns ≡ cond t None (Some (flat_map option_to_list (map session_number ws)))
-        → Gives r (cond t (Err (bad line SessionNumber)) (unless (order_fault (sections_of d) line (flat_map option_to_list (map session_number ws))) (with_order d (flat_map option_to_list (map session_number ws)))))
+    by_test : (t : Bool) → cond t (Err (bad line (words_fault ws))) (Ok (flat_map option_to_list (map session_number ws))) ≡ Ok ns
+        → Gives r (cond t (Err (bad line (words_fault ws))) (unless (order_fault (sections_of d) line (flat_map option_to_list (map session_number ws))) (with_order d (flat_map option_to_list (map session_number ws)))))
     by_test true k = cc
     by_test false k = let same : ns ≡ flat_map option_to_list (map session_number ws) = cc in subst (λ ms. Gives r (unless (order_fault (sections_of d) line ms) (with_order d ms))) same h
 
-pub order-refused : (d : Draft) (line : ℕ) (ws : List (List ℕ)) → None ≡ numbers_behind [] ws → order_by d line (map session_number ws) ≡ Err (bad line SessionNumber)
-order-refused d line ws e = by_test (list_any is_none (map session_number ws)) e
+pub order-refused : (d : Draft) (line : ℕ) (f : ScriptFault) (ws : List (List ℕ)) → Gives (Err f) (numbers_behind line [] ws) → Gives (Err f) (order_by d line (words_fault ws) (map session_number ws))
+order-refused d line faults.Memory ws e = tt
+order-refused d line (faults.Bad b) ws e = by_test (list_any is_none (map session_number ws)) e
   where
-    by_test : (t : Bool) → None ≡ cond t None (Some (flat_map option_to_list (map session_number ws)))
-        → cond t (Err (bad line SessionNumber)) (unless (order_fault (sections_of d) line (flat_map option_to_list (map session_number ws))) (with_order d (flat_map option_to_list (map session_number ws)))) ≡ Err (bad line SessionNumber)
-    by_test true k = refl
+    by_test : (t : Bool) → cond t (Err (bad line (words_fault ws))) (Ok (flat_map option_to_list (map session_number ws))) ≡ Err b
+        → cond t (Err (bad line (words_fault ws))) (unless (order_fault (sections_of d) line (flat_map option_to_list (map session_number ws))) (with_order d (flat_map option_to_list (map session_number ws)))) ≡ Err b
+    by_test true k = let same : bad line (words_fault ws) ≡ b = cc in ap (λ x. Err x) same
     by_test false k = cc
 
 pub ruleset orders = (order-gives, order-refused)

@@ -3,18 +3,19 @@ use Rattle.std.proofs.Common.{◌≡◌, ℕ, List, [], ◌∷◌, ◌++◌, Boo
 use Rattle.std.specs.List.{list_all, list_any}
 use Rattle.std.specs.Prelude.{◌==◌, codes, is_none, map, not, option_map, option_to_list}
 use Rattle.def_built.specs.Commands.{command_is_built, commands_are_built}
-use Rattle.def_built.specs.Form.{draft_is_built, section_is_built, sections_are_built}
+use Rattle.def_built.specs.Form.{draft_is_built, section_is_built, sections_are_built, views_are_built}
 use Rattle.def_built.specs.Forms.{is_built}
 use Rattle.def_built.specs.declared.forms.Form.TheVariants as forms
-use Rattle.def_grammar.specs.Forms.{statement_of}
-use Rattle.def_grammar.specs.Lines.{Directive, EndLoad, EndScript, LoadOf, Order, SessionAt, Setup, Unknown}
-use Rattle.def_grammar.specs.Script.{Draft, Drafted, OpenBlockAt, StatementTokens, begin_session, command_by, in_section, is_inner, is_later, is_only_word, last_number, open_fault, sections_of, session_number, take_command, take_directive, take_inner, take_load, take_statement, with_command}
+use Rattle.def_grammar.specs.Forms.{statement_of, submit_of}
+use Rattle.def_grammar.specs.Lines.{Directive, EndLoad, EndScript, LoadOf, Order, SessionAt, Setup, Unknown, WorkersAt}
+use Rattle.def_grammar.specs.Script.{Draft, Drafted, OpenBlockAt, StatementTokens, begin_session, command_by, in_section, in_setup, is_inner, is_later, is_never_inner, is_only_word, last_number, may_have_workers, open_fault, sections_of, session_number, take_command, take_directive, take_inner, take_load, take_own, take_statement, with_command, with_workers, word_fault, worker_number}
 use Rattle.wh_base.specs.Lists.{is_empty, option_case, unless, unless_then}
 use Rattle.wh_base.specs.declared.statements.BadScript.{BadScript}
 use Rattle.wh_base.specs.declared.statements.Command.{Command}
 use Rattle.wh_base.specs.declared.statements.Command.TheVariants as commands
+use Rattle.wh_base.specs.declared.statements.ScriptKind.{ScriptKind}
 use Rattle.wh_base.specs.declared.statements.Section.{Section}
-use Rattle.wh_lex.specs.declared.token.Token.{Token}
+use Rattle.wh_base.specs.declared.tokens.Token.{Token}
 use Rattle.wh_script.proofs.LastCommands.{all_more, but_last-end}
 use Rattle.wh_script.specs.Built.{IsBuiltBefore, but_last, may_stand, shorter_last, shorter_section}
 
@@ -164,7 +165,7 @@ step_of : (P : Draft → Type 0) (r : Drafted) (e : Draft) → Each P r → r �
 step_of P r e h k = subst (Each P) k h
 
 sections_of_built : (d : Draft) → draft_is_built d ≡ true → sections_are_built (sections_of d) ≡ true
-sections_of_built d h = left_of (sections_are_built (sections_of d)) _ h
+sections_of_built d h = left_of (sections_are_built (sections_of d)) (views_are_built (sections_of d)) (left_of (sections_are_built (sections_of d) && views_are_built (sections_of d)) _ h)
 
 module _ (d : Draft) (built : sections_are_built (sections_of d) ≡ true) where
   same : IsBuiltBefore d
@@ -173,13 +174,16 @@ module _ (d : Draft) (built : sections_are_built (sections_of d) ≡ true) where
   more : (c : Command) → IsBuiltBefore (with_command d c)
   more c = more_before d.before d.now c built
 
+  own_step : (line : ℕ) (ts : List Token) → Each IsBuiltBefore (take_own d line ts)
+  own_step line ts = either IsBuiltBefore (is_only_word (codes "BEGIN") ts) _ _ same (by_option IsBuiltBefore (statement_of ts) _ _ tt (λ s. more (command_by s)))
+
   command_step : (line : ℕ) (ts : List Token) → Each IsBuiltBefore (take_command d line ts)
-  command_step line ts = either IsBuiltBefore (is_only_word (codes "BEGIN") ts) _ _ same (by_option IsBuiltBefore (statement_of ts) _ _ tt (λ s. more (command_by s)))
+  command_step line ts = by_option IsBuiltBefore (submit_of ts) _ _ (own_step line ts) (λ s. either IsBuiltBefore (in_setup d) _ _ tt (more (commands.Submit s)))
 
   inner_step : (b : OpenBlockAt) (line : ℕ) (ts : List Token) → Each IsBuiltBefore (take_inner d b line ts)
   inner_step b line ts =
       either IsBuiltBefore (is_only_word (codes "COMMIT") ts) _ _ (more (commands.Block (record { statements = b.statements })))
-      (either IsBuiltBefore (is_only_word (codes "BEGIN") ts) _ _ tt (by_option IsBuiltBefore (statement_of ts) _ _ tt (λ s. either IsBuiltBefore (is_inner s) _ _ same tt)))
+      (either IsBuiltBefore (is_never_inner ts) _ _ tt (by_option IsBuiltBefore (statement_of ts) _ _ tt (λ s. either IsBuiltBefore (is_inner s) _ _ same tt)))
 
   statement_step : (line : ℕ) (p : StatementTokens) → Each IsBuiltBefore (take_statement d line p)
   statement_step line p =
@@ -192,13 +196,17 @@ module _ (d : Draft) (built : sections_are_built (sections_of d) ≡ true) where
   behind_all : sections_are_built (sections_of d ++ []) ≡ true
   behind_all = rw (append-nil (sections_of d)) built
 
-  session_step : (line : ℕ) (o : Option ℕ) → Each IsBuiltBefore (begin_session d line o)
-  session_step line None = tt
-  session_step line (Some n) = either IsBuiltBefore (is_later (last_number d) n) _ _ behind_all tt
+  session_step : (line : ℕ) (wrong : ScriptKind) (o : Option ℕ) → Each IsBuiltBefore (begin_session d line wrong o)
+  session_step line wrong None = tt
+  session_step line wrong (Some n) = either IsBuiltBefore (is_later (last_number d) n) _ _ behind_all tt
+
+  workers_step : (line : ℕ) (wrong : ScriptKind) (o : Option ℕ) → Each IsBuiltBefore (with_workers d line wrong o)
+  workers_step line wrong None = tt
+  workers_step line wrong (Some n) = behind_all
 
   directive_step : (line : ℕ) (t : Directive) → Each IsBuiltBefore (take_directive d line t)
-  directive_step line Setup = either IsBuiltBefore (is_empty (sections_of d) && is_none d.order) _ _ behind_all tt
-  directive_step line (SessionAt w) = either IsBuiltBefore (is_none d.order) _ _ (unless_open IsBuiltBefore (open_fault d) _ (session_step line (session_number w))) tt
+  directive_step line Setup = either IsBuiltBefore (is_empty (sections_of d) && (is_none d.order && is_none d.workers)) _ _ behind_all tt
+  directive_step line (SessionAt w) = either IsBuiltBefore (is_none d.order) _ _ (unless_open IsBuiltBefore (open_fault d) _ (session_step line (word_fault w) (session_number w))) tt
   directive_step line (Order ws) =
       either IsBuiltBefore (is_none d.order) _ _
       (unless_open IsBuiltBefore (open_fault d) _ (either IsBuiltBefore (list_any is_none (map session_number ws)) _ _ tt (unless_fault IsBuiltBefore _ _ behind_all)))
@@ -207,6 +215,7 @@ module _ (d : Draft) (built : sections_are_built (sections_of d) ≡ true) where
   directive_step line EndLoad = tt
   directive_step line EndScript = tt
   directive_step line Unknown = tt
+  directive_step line (WorkersAt w) = either IsBuiltBefore (may_have_workers d) _ _ (unless_open IsBuiltBefore (open_fault d) _ (workers_step line (word_fault w) (worker_number w))) tt
 
 pub statement-before : (d e : Draft) (line : ℕ) (p : StatementTokens) → draft_is_built d ≡ true → take_statement d line p ≡ Ok e → IsBuiltBefore e
 statement-before d e line p h k = step_of IsBuiltBefore (take_statement d line p) e (statement_step d (sections_of_built d h) line p) k

@@ -1,7 +1,7 @@
 -- The elements of a script piece by piece, and what a draft is behind them.
-use Rattle.std.proofs.Common.{◌≡◌, ℕ, ◌≤◌, ◌<◌, ◌+◌, ◌-◌, suc, zero, List, [], ◌∷◌, ◌++◌, length, drop, take, min, Bool, true, false, Result, Ok, Err, refl, ap, sym, ◌∙◌, arith, subst, append_assoc}
+use Rattle.std.proofs.Common.{◌≡◌, ℕ, ◌≤◌, ◌<◌, ◌+◌, ◌-◌, List, [], ◌∷◌, ◌++◌, length, drop, take, Bool, true, false, Result, Ok, Err, refl, ap, sym, ◌∙◌, arith, subst, append-nil, append_assoc}
 use Rattle.std.proofs.lemmas.Bool.Decides.{nat_tests}
-use Rattle.std.proofs.lemmas.List.{length-drop, length-take, length-take-le, take-take, take_all}
+use Rattle.std.proofs.lemmas.List.{length-drop, length-take-le}
 use Rattle.std.specs.Prelude.{flat_map, nat_le, nat_lt, ◌&&◌}
 use Rattle.std.specs.Str.Lossy.{utf8_valid_len}
 use Rattle.def_built.specs.Form.{built_script, draft_is_built}
@@ -10,10 +10,11 @@ use Rattle.def_grammar.specs.Script.{Directed, Draft, bad, Element, Loaded, bloc
 use Rattle.wh_base.specs.declared.statements.ScriptKind.TheVariants.{NotUtf8}
 use Rattle.wh_script.proofs.LineRuns.{length_of_line, lines_at-end, pieces-directive, pieces-text}
 use Rattle.wh_script.proofs.LoadLines.{block-is, lines_at-bytes, pieces-load, size_of-bytes}
-use Rattle.wh_script.specs.Pieces.{IsAlone, IsStep, IsTaken, IsWalked, ReadsOn, before_closing, behind_block, behind_line, block_at, elements_left, is_closed, line_len, line_of, lines_at, load_block, pieces_at, text_len}
+use Rattle.wh_script.specs.Pieces.{IsAlone, IsAt, IsStep, IsTaken, IsWalked, ReadsOn, before_closing, behind_block, behind_line, block_at, elements_left, is_closed, line_len, line_of, lines_at, load_block, pieces_at, text_len}
 use Rattle.wh_script.specs.Sections.{Gives, meant}
 use Rattle.wh_script.specs.declared.lines.Directive as ours
 use Rattle.wh_script.specs.declared.lines.Directive.TheVariants as directives
+use Rattle.wh_script.specs.declared.lines.LineMark.{LineMark}
 use Rattle.wh_script.specs.declared.pieces.Walked.{Walked}
 use Rattle.wh_script.specs.declared.pieces.Walked.TheVariants.{AtEnd, On}
 use Rattle.wh_script.specs.declared.fault.ScriptFault.{ScriptFault}
@@ -82,6 +83,7 @@ elements-alone bytes valid place t h e d alone =
     by_case directives.Setup alone = refl
     by_case (directives.Session w) alone = refl
     by_case (directives.Order ws) alone = refl
+    by_case (directives.Workers w) alone = refl
     by_case directives.EndLoad alone = refl
     by_case directives.Unknown alone = refl
 
@@ -135,29 +137,25 @@ pub ruleset ons = (broken-there, broken-not)
 
 -- ---- the three kinds of step
 
--- the valid front of a run
-valid_front : (bytes : List ℕ) (valid place size end : ℕ) → end ≡ place + min size (valid - place) → take (end - place) (drop place bytes) ≡ take (valid - place) (take size (drop place bytes))
-valid_front bytes valid place size end e = by_left (size - (valid - place)) refl
-  where
-    by_left : (n : ℕ) → size - (valid - place) ≡ n → take (end - place) (drop place bytes) ≡ take (valid - place) (take size (drop place bytes))
-    by_left zero h =
-        let all : end - place ≡ size = omega (arith, h, e) in
-        ap (λ n. take n (drop place bytes)) all ∙ sym (take_all (valid - place) (take size (drop place bytes)) (omega (arith, h, length-take size (drop place bytes))))
-    by_left (suc n) h =
-        let some : end - place ≡ valid - place = omega (arith, h, e) in
-        ap (λ n. take n (drop place bytes)) some ∙ sym (take-take (valid - place) size (drop place bytes) (omega (arith, h)))
-
-pub run-first : (bytes : List ℕ) (valid place size end : ℕ) (d : Draft) (r : Result Draft ScriptFault) → end ≡ place + min size (valid - place) → IsTaken bytes d (text_elements place (take (end - place) (drop place bytes))) r → IsTaken bytes d (text_elements place (take (valid - place) (take size (drop place bytes)))) r
-run-first bytes valid place size end d r e h = subst (λ xs. IsTaken bytes d (text_elements place xs) r) (valid_front bytes valid place size end e) h
-
-pub run-all : (bytes : List ℕ) (valid place size : ℕ) → place + size ≤ length bytes → size ≡ text_len true (drop place bytes) → 0 < size → elements_left bytes valid place ≡ (text_elements place (take (valid - place) (take size (drop place bytes))) ++ broken_within valid place size) ++ elements_left bytes valid (place + size)
-run-all bytes valid place size within e some =
-    let ds = drop place bytes in
-    let len : length (take size ds) ≡ size = length-take-le size ds (rw length-drop (omega arith)) in
-    let there : 0 < text_len true ds = subst (λ n. 0 < n) e some in
+-- the elements of a run of text, and those behind it
+run-all : (bytes : List ℕ) (valid place size next : ℕ) → size ≡ text_len true (drop place bytes) → 0 < size → next ≡ place + size → elements_left bytes valid place ≡ (text_elements valid place (take (next - place) (drop place bytes)) ++ []) ++ elements_left bytes valid next
+run-all bytes valid place size next is some end =
+    let len : text_len true (drop place bytes) ≡ next - place = omega (arith, is, end) in
+    let sum : place + text_len true (drop place bytes) ≡ next = omega (arith, is, end) in
+    let there : 0 < text_len true (drop place bytes) = omega (arith, is, some) in
     elements-text bytes valid place there
-    ∙ ap (λ n. piece_elements valid (TextRun place (take n ds)) ++ elements_left bytes valid (place + n)) (sym e)
-    ∙ ap (λ n. (text_elements place (take (valid - place) (take size ds)) ++ broken_within valid place n) ++ elements_left bytes valid (place + size)) len
+    ∙ ap (λ n. text_elements valid place (take n (drop place bytes)) ++ elements_left bytes valid (place + text_len true (drop place bytes))) len
+    ∙ ap (λ n. text_elements valid place (take (next - place) (drop place bytes)) ++ elements_left bytes valid n) sum
+    ∙ ap (λ es. es ++ elements_left bytes valid next) (sym (append-nil (text_elements valid place (take (next - place) (drop place bytes)))))
+
+-- a run of text
+pub run-step : (bytes : List ℕ) (valid place size next : ℕ) (d e : Draft) (m : LineMark) → place + size ≤ length bytes → size ≡ text_len true (drop place bytes) → 0 < size → next ≡ place + size → IsTaken bytes d (text_elements valid place (take (next - place) (drop place bytes))) (Ok e) → IsAt bytes next e m → IsStep bytes valid d place (Ok (On e m))
+run-step bytes valid place size next d e m within is some end taken at =
+    step-then bytes valid place next d e (text_elements valid place (take (next - place) (drop place bytes))) [] (Ok (On e m)) taken ((λ tail rest. refl), at) (run-all bytes valid place size next is some end) (omega (arith, end, some)) (omega (arith, end, within))
+
+pub run-fault : (bytes : List ℕ) (valid place size next : ℕ) (d : Draft) (f : ScriptFault) → size ≡ text_len true (drop place bytes) → 0 < size → next ≡ place + size → IsTaken bytes d (text_elements valid place (take (next - place) (drop place bytes))) (Err f) → IsStep bytes valid d place (Err f)
+run-fault bytes valid place size next d f is some end taken =
+    step-fault bytes valid place next d (text_elements valid place (take (next - place) (drop place bytes))) [] f taken (run-all bytes valid place size next is some end)
 
 pub alone-first : (bytes : List ℕ) (place line : ℕ) (t : Directive) (d : Draft) (r : Result Draft ScriptFault) → line ≡ line_at bytes place → Gives r (where_built draft_is_built line (take_directive d line t)) → IsTaken bytes d (Directed (line_of bytes place) t ∷ []) r
 alone-first bytes place line t d r e h = directed-taken bytes d (line_of bytes place) t r (subst (λ n. Gives r (where_built draft_is_built n (take_directive d n t))) e h)

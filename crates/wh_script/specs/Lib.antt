@@ -3,3 +3,4 @@ pub mod Drafts
 pub mod Pieces
 pub mod Built
 pub mod Texts
+pub mod Known

@@ -21,6 +21,7 @@ abbrev pub meant : Directive → defs.Directive
 meant ours.Setup = defs.Setup
 meant (ours.Session w) = defs.SessionAt w.now
 meant (ours.Order rest) = defs.Order (words_in rest.now)
+meant (ours.Workers w) = defs.WorkersAt w.now
 meant (ours.Load n) = defs.LoadOf n
 meant ours.EndLoad = defs.EndLoad
 meant ours.EndScript = defs.EndScript

@@ -1,4 +1,4 @@
-ghost use Rattle.def_built.specs.Commands.{block_is_built, command_is_built, is_complete, method_is_built, new_table_is_built, new_view_is_built, part_of_block_is_built, query_is_built, refresh_is_built, show_is_built, statement_is_built, table_statement_is_built, view_statement_is_built};
+ghost use Rattle.def_built.specs.Commands.{block_is_built, command_is_built, is_complete, method_is_built, new_table_is_built, new_view_is_built, part_change_is_built, part_of_block_is_built, query_is_built, refresh_is_built, show_is_built, statement_is_built, table_statement_is_built, view_statement_is_built};
 ghost use Rattle.def_built.specs.Forms.{block_form, change_form, statement_form, table_form};
 ghost use Rattle.std.specs.List.{list_all};
 ghost use Rattle.std.specs.Prelude.{◌≡◌};
@@ -6,14 +6,23 @@ ghost use Rattle.std.specs.Prelude.{◌≡◌};
 use def_built::forms::{Form, is_built};
 use wh_base::queries::RawQuery;
 use wh_base::statements::{
-    ChangeStatement, Command, Method, NewTable, NewView, RefreshView, ShowStatement, Statement,
-    TableStatement, ViewStatement,
+    ChangeStatement, Command, Method, NewTable, NewView, PartChange, RefreshView, ShowStatement,
+    Statement, TableStatement, ViewStatement,
 };
 
 fn new_table_is_built(table: &NewTable) -> bool
     ensures { result ≡ new_table_is_built table.now }
 {
-    table.partitioning.is_none()
+    table.partitioning.is_none() && !table.movement
+}
+
+fn part_change_is_built(change: &PartChange) -> bool
+    ensures { result ≡ part_change_is_built change.now }
+{
+    match change {
+        PartChange::Add(_) | PartChange::DropPart(_) | PartChange::Truncate(_) => true,
+        PartChange::Split(_) | PartChange::Merge(_) | PartChange::Movement(_) => false,
+    }
 }
 
 fn table_statement_is_built(table: &TableStatement) -> bool
@@ -21,9 +30,11 @@ fn table_statement_is_built(table: &TableStatement) -> bool
 {
     match table {
         TableStatement::CreateTable(table) => {
-            is_built(Form::CreateTable) && new_table_is_built(table)
+            is_built(Form::CreateTable) && new_table_is_built(table.get())
         }
-        TableStatement::AlterTable(_) => is_built(Form::AlterTable),
+        TableStatement::AlterTable(alter) => {
+            is_built(Form::AlterTable) && part_change_is_built(&alter.get().change)
+        }
     }
 }
 
@@ -45,7 +56,7 @@ fn method_is_built(method: Method) -> bool
 fn new_view_is_built(view: &NewView) -> bool
     ensures { result ≡ new_view_is_built view.now }
 {
-    method_is_built(view.method) && !view.on_commit && query_is_built(&view.asked.query)
+    method_is_built(view.method) && !view.on_commit && query_is_built(&view.asked.get().query)
 }
 
 fn view_statement_is_built(view: &ViewStatement) -> bool
@@ -69,7 +80,7 @@ fn is_complete(method: Option<Method>) -> bool
 fn refresh_is_built(refresh: &RefreshView) -> bool
     ensures { result ≡ refresh_is_built refresh.now }
 {
-    is_complete(refresh.method)
+    is_complete(refresh.method) && refresh.more.is_empty()
 }
 
 fn show_is_built(show: &ShowStatement) -> bool
@@ -133,7 +144,7 @@ fn statement_is_built(statement: &Statement) -> bool
     ensures { result ≡ statement_is_built statement.now }
 {
     match statement {
-        Statement::Select(asked) => is_built(Form::Select) && query_is_built(&asked.query),
+        Statement::Select(asked) => is_built(Form::Select) && query_is_built(&asked.get().query),
         Statement::Change(_) => false,
         Statement::Table(table) => table_statement_is_built(table),
         Statement::View(view) => is_built(Form::View) && view_statement_is_built(view),
@@ -178,5 +189,6 @@ pub fn command_is_built(command: &Command) -> bool
     match command {
         Command::Block(block) => block_is_built(block.statements.as_slice()),
         Command::Other(statement) => statement_is_built(statement),
+        Command::Submit(statement) => is_built(Form::Submit) && statement_is_built(statement),
     }
 }

@@ -1,12 +1,16 @@
-ghost use Rattle.def_grammar.specs.Script.{bad, command_by, first_draft, in_section, is_dml, is_inner, is_only_word, open_fault, take_closed, take_command, take_inner, take_statement, with_command, with_inner};
+ghost use Rattle.def_grammar.specs.Forms.{statement_of};
+ghost use Rattle.def_grammar.specs.Script.{bad, command_by, first_draft, in_section, in_setup, is_dml, is_inner, is_never_inner, is_only_word, open_fault, take_closed, take_command, take_inner, take_own, take_statement, with_command, with_inner};
 ghost use Rattle.std.specs.List.{list_all};
-ghost use Rattle.std.specs.Prelude.{◌≡◌, IfOk, None, Ok, Some, [], option_map, true};
+ghost use Rattle.std.specs.Prelude.{◌≡◌, Err, IfOk, None, Ok, Some, [], cond, option_map, true};
+ghost use Rattle.wh_base.specs.Lists.{option_case};
 ghost use Rattle.wh_base.specs.declared.statements.ScriptKind.TheVariants as kinds;
 ghost use Rattle.wh_lex.specs.Lex.{token_fits};
 ghost use Rattle.wh_script.specs.Drafts.{one_more, stated};
+ghost use Rattle.wh_script.specs.Known.{AreMore};
 ghost use Rattle.wh_script.specs.Sections.{Gives};
 
 use crate::fault::ScriptFault;
+use crate::view_names::ViewNames;
 use std::alloc::{AllocError, Global};
 use std::marker::Model;
 use wh_base::seq::Seq;
@@ -14,9 +18,9 @@ use wh_base::shared::Shared;
 use wh_base::statements::{
     BadScript, Block, ChangeStatement, Command, ScriptKind, Section, Statement,
 };
-use wh_ddl_text::statements::whole_statement;
+use wh_base::tokens::Token;
+use wh_ddl_text::statements::{whole_statement, whole_submit};
 use wh_lex::lex::StatementTokens;
-use wh_lex::token::Token;
 use wh_query_text::parser::{ParseFault, Parser};
 
 /// A block that is open: the line of its BEGIN and its statements so far.
@@ -35,7 +39,8 @@ impl Model for OpenBlock {
 }
 
 /// How far a script has been read: the sections before, the section that goes on, its open block, the line of a statement
-/// that isn't closed, and what `@order` named.
+/// that isn't closed, what `@order` named, and how many workers `@workers` names. Contracts see these. Beside them are the
+/// names of the views of all these sections, so that a view over a view is found without going over the statements before.
 #[derive(Drop)]
 pub struct Draft {
     pub(crate) before: Seq<Section>,
@@ -43,14 +48,20 @@ pub struct Draft {
     pub(crate) block: Option<OpenBlock>,
     pub(crate) open_at: Option<u64>,
     pub(crate) order: Option<Seq<u32>>,
+    pub(crate) workers: Option<u32>,
+    pub(crate) views: ViewNames,
 }
 
 impl Model for Draft {
     ghost use Rattle.def_grammar.specs.Script as script;
+    ghost use Rattle.std.specs.Prelude.{◌++◌, option_to_list};
+    ghost use Rattle.wh_script.specs.Known.{Knows};
 
     ghost Value = { script.Draft };
 
-    ghost view = { λ d. record { before = d.before; now = d.now; block = d.block; open_at = d.open_at; order = d.order } };
+    ghost view = { λ d. record { before = d.before; now = d.now; block = d.block; open_at = d.open_at; order = d.order; workers = d.workers } };
+
+    ghost invariant = { λ d. Knows d.views (d.before ++ option_to_list d.now) };
 }
 
 /// A fault on a line, counted from 1.
@@ -62,6 +73,7 @@ pub(crate) fn bad(line: u64, kind: ScriptKind) -> ScriptFault
 
 impl Draft {
     /// Nothing read. Takes no memory.
+    #[tactic(auto, using(crate::proofs::Nesting::known))]
     pub fn new(alloc: Global) -> Draft
         ensures { result ≡ first_draft }
     {
@@ -71,6 +83,8 @@ impl Draft {
             block: None,
             open_at: None,
             order: None,
+            workers: None,
+            views: ViewNames::new(alloc),
         }
     }
 
@@ -91,6 +105,8 @@ impl Draft {
             block: _,
             open_at,
             order,
+            workers,
+            views,
         } = self;
         Draft {
             before,
@@ -98,6 +114,8 @@ impl Draft {
             block,
             open_at,
             order,
+            workers,
+            views,
         }
     }
 
@@ -110,6 +128,8 @@ impl Draft {
             block,
             open_at: _,
             order,
+            workers,
+            views,
         } = self;
         Draft {
             before,
@@ -117,10 +137,13 @@ impl Draft {
             block,
             open_at: Some(line),
             order,
+            workers,
+            views,
         }
     }
 
     /// One command more in the section. An error says that memory ran out.
+    #[tactic(auto, using(crate::proofs::Nesting::known))]
     pub(crate) fn with_command(self, alloc: Global, command: Command) -> Result<Draft, AllocError>
         ensures { IfOk result (λ d. d ≡ with_command self command) }
     {
@@ -130,13 +153,18 @@ impl Draft {
             block,
             open_at,
             order,
+            workers,
+            views,
         } = self;
+        let (now, views) = longer(alloc, now, views, command)?;
         Ok(Draft {
             before,
-            now: longer(alloc, now, command)?,
+            now,
             block,
             open_at,
             order,
+            workers,
+            views,
         })
     }
 
@@ -150,10 +178,10 @@ impl Draft {
         }
     }
 
-    // A closed statement outside blocks.
-    fn take_command(self, alloc: Global, line: u64, tokens: &[Token]) -> Result<Draft, ScriptFault>
+    // A closed statement outside blocks that submits nothing.
+    fn take_own(self, alloc: Global, line: u64, tokens: &[Token]) -> Result<Draft, ScriptFault>
         requires { list_all token_fits tokens.now ≡ true }
-        ensures { Gives result (take_command self line tokens.now) }
+        ensures { Gives result (take_own self line tokens.now) }
     {
         if is_only_word(alloc, tokens, b"BEGIN") {
             let statements = Seq::new(alloc);
@@ -174,6 +202,44 @@ impl Draft {
             Err(ParseFault::Syntax) => {
                 drop(self);
                 Err(bad(line, ScriptKind::Syntax))
+            }
+        }
+    }
+
+    // Whether the section that goes on is the setup.
+    fn in_setup(&self) -> bool
+        ensures { result ≡ in_setup self.entry.now }
+    {
+        match &self.now {
+            Some(section) => section.session == 0,
+            None => false,
+        }
+    }
+
+    // A refresh that is submitted, which may not stand in the setup.
+    fn submit(self, alloc: Global, line: u64, refresh: Statement) -> Result<Draft, ScriptFault>
+        ensures { Gives result (cond (in_setup self) (Err (bad line kinds.Misplaced)) (Ok (with_command self (Command.Submit refresh)))) }
+    {
+        if self.in_setup() {
+            drop(self);
+            drop(refresh);
+            return Err(bad(line, ScriptKind::Misplaced));
+        }
+        self.step_with(alloc, Command::Submit(refresh))
+    }
+
+    // A closed statement outside blocks.
+    #[tactic(auto, using(crate::proofs::Drafts::submits))]
+    fn take_command(self, alloc: Global, line: u64, tokens: &[Token]) -> Result<Draft, ScriptFault>
+        requires { list_all token_fits tokens.now ≡ true }
+        ensures { Gives result (take_command self line tokens.now) }
+    {
+        match whole_submit(alloc, tokens) {
+            Ok(refresh) => self.submit(alloc, line, refresh),
+            Err(ParseFault::Syntax) => self.take_own(alloc, line, tokens),
+            Err(ParseFault::Memory) => {
+                drop(self);
+                Err(ScriptFault::Memory)
             }
         }
     }
@@ -218,8 +284,8 @@ impl Draft {
             .step_with(alloc, Command::Block(Block { statements }))
     }
 
-    // A closed statement in a block.
-    fn take_inner(
+    // A closed statement in a block that neither ends it nor may never stand there.
+    fn take_part(
         self,
         alloc: Global,
         block: OpenBlock,
@@ -227,16 +293,8 @@ impl Draft {
         tokens: &[Token],
     ) -> Result<Draft, ScriptFault>
         requires { list_all token_fits tokens.now ≡ true }
-        ensures { Gives result (take_inner self block line tokens.now) }
+        ensures { Gives result (option_case (statement_of tokens.now) (Err (bad line kinds.Syntax)) (with_inner self block line)) }
     {
-        if is_only_word(alloc, tokens, b"COMMIT") {
-            return self.close(alloc, block);
-        }
-        if is_only_word(alloc, tokens, b"BEGIN") {
-            drop(self);
-            drop(block);
-            return Err(bad(line, ScriptKind::Misplaced));
-        }
         match whole_statement(alloc, tokens) {
             Ok(statement) => self.with_inner(block, line, statement),
             Err(ParseFault::Memory) => {
@@ -252,6 +310,35 @@ impl Draft {
         }
     }
 
+    // A closed statement in a block.
+    fn take_inner(
+        self,
+        alloc: Global,
+        block: OpenBlock,
+        line: u64,
+        tokens: &[Token],
+    ) -> Result<Draft, ScriptFault>
+        requires { list_all token_fits tokens.now ≡ true }
+        ensures { Gives result (take_inner self block line tokens.now) }
+    {
+        if is_only_word(alloc, tokens, b"COMMIT") {
+            return self.close(alloc, block);
+        }
+        match is_never_inner(alloc, tokens) {
+            Ok(true) => {
+                drop(self);
+                drop(block);
+                Err(bad(line, ScriptKind::Misplaced))
+            }
+            Ok(false) => self.take_part(alloc, block, line, tokens),
+            Err(_) => {
+                drop(self);
+                drop(block);
+                Err(ScriptFault::Memory)
+            }
+        }
+    }
+
     // The draft without its block, and the block.
     fn split_block(self) -> (Draft, Option<OpenBlock>)
         ensures draft { result.0 ≡ record self { block = None } }
@@ -263,6 +350,8 @@ impl Draft {
             block,
             open_at,
             order,
+            workers,
+            views,
         } = self;
         (
             Draft {
@@ -271,6 +360,8 @@ impl Draft {
                 block: None,
                 open_at,
                 order,
+                workers,
+                views,
             },
             block,
         )
@@ -292,9 +383,9 @@ impl Draft {
     /// The draft behind a statement, given with the line on which its first token stands, or its semicolon where it has no
     /// token. A statement that isn't closed stays open until its section ends.
     ///
-    /// `Bad`: `Misplaced` outside every section, and in a block for BEGIN and for what is no query, INSERT, UPDATE or
-    /// DELETE; `Syntax` for what no form of statement reads. `Memory` says that memory ran out. The kinds of fault are this
-    /// project's own.
+    /// `Bad`: `Misplaced` outside every section, for SUBMIT in the setup and in a block, and in a block for BEGIN and for what
+    /// is no query, INSERT, UPDATE or DELETE; `Syntax` for what no form of statement reads. `Memory` says that memory ran
+    /// out. The kinds of fault are this project's own.
     pub fn take_statement(
         self,
         alloc: Global,
@@ -328,19 +419,32 @@ impl Draft {
     }
 }
 
-// The section that goes on with one command more, where one does. An error says that memory ran out.
+// The section that goes on with one command more, and the names with those of the command, where a section does. An error
+// says that memory ran out.
 fn longer(
     alloc: Global,
     now: Option<Section>,
+    views: ViewNames,
     command: Command,
-) -> Result<Option<Section>, AllocError>
-    ensures { IfOk result (λ o. o ≡ option_map (one_more command) now) }
+) -> Result<(Option<Section>, ViewNames), AllocError>
+    ensures section { IfOk result (λ p. p.0 ≡ option_map (one_more command) now) }
+    ensures names { IfOk result (λ p. AreMore now command views p.1) }
 {
     match now {
-        Some(section) => Ok(Some(section_with(alloc, section, command)?)),
+        Some(section) => match views.with(alloc, &command) {
+            Ok(views) => {
+                let section = section_with(alloc, section, command)?;
+                Ok((Some(section), views))
+            }
+            Err(fault) => {
+                drop(section);
+                drop(command);
+                Err(fault)
+            }
+        },
         None => {
             drop(command);
-            Ok(None)
+            Ok((None, views))
         }
     }
 }
@@ -380,6 +484,25 @@ fn is_only_word(alloc: Global, tokens: &[Token], word: &[u8]) -> bool
     }
 }
 
+// Whether the tokens may stand in no block though they are in the grammar: BEGIN, or a refresh that is submitted. An error
+// says that memory ran out.
+fn is_never_inner(alloc: Global, tokens: &[Token]) -> Result<bool, AllocError>
+    requires { list_all token_fits tokens.now ≡ true }
+    ensures { IfOk result (λ b. b ≡ is_never_inner tokens.now) }
+{
+    if is_only_word(alloc, tokens, b"BEGIN") {
+        return Ok(true);
+    }
+    match whole_submit(alloc, tokens) {
+        Ok(refresh) => {
+            drop(refresh);
+            Ok(true)
+        }
+        Err(ParseFault::Syntax) => Ok(false),
+        Err(ParseFault::Memory) => Err(AllocError),
+    }
+}
+
 fn is_dml(statement: &Statement) -> bool
     ensures { result ≡ is_dml statement.now }
 {
@@ -406,7 +529,7 @@ fn command_by(alloc: Global, statement: Statement) -> Result<Command, AllocError
     if !is_dml(&statement) {
         return Ok(Command::Other(statement));
     }
-    let mut statements = Seq::new(alloc);
-    statements.push(statement)?;
-    Ok(Command::Block(Block { statements }))
+    Ok(Command::Block(Block {
+        statements: Seq::one(alloc, statement)?,
+    }))
 }

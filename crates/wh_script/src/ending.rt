@@ -1,28 +1,15 @@
 ghost use Rattle.def_built.specs.Form.{draft_is_built, script_is_built};
 ghost use Rattle.def_grammar.specs.Script.{after_fault, ending, finish, first_black, is_white, no_end, open_fault};
 ghost use Rattle.std.specs.Prelude.{◌≡◌, ◌<◌, ◌≤◌, ◌^◌, ◌∷◌, [], Err, IfOk, IfSome, None, Ok, cond, drop, length, slice_index, true};
-ghost use Rattle.std.specs.Str.Lossy.{utf8_valid_len};
 ghost use Rattle.wh_base.specs.Lists.{first_some};
 ghost use Rattle.wh_script.specs.Pieces.{GivesScript, is_white_before};
 
 use crate::draft::Draft;
 use crate::fault::ScriptFault;
-use crate::lines::line_at;
+use crate::lines::{line_at, valid_len};
 use crate::script::ReadScript;
 use std::alloc::Global;
 use wh_base::statements::{BadScript, ScriptKind};
-
-/// How many bytes in front are UTF-8.
-#[tactic(auto, using(crate::proofs::Behind::valid))]
-pub(crate) fn valid_len(bytes: &[u8]) -> usize
-    ensures count { result ≡ utf8_valid_len bytes.now }
-    ensures within { result ≤ length bytes.now }
-{
-    match std::str::from_utf8(bytes) {
-        Ok(_) => bytes.len(),
-        Err(fault) => fault.valid_up_to(),
-    }
-}
 
 fn byte_or_zero(bytes: &[u8], at: usize) -> u8
     ensures { result ≡ slice_index bytes.now at }

@@ -16,3 +16,4 @@ mod pieces;
 pub mod reading;
 pub mod script;
 pub mod text;
+mod view_names;

@@ -1,12 +1,14 @@
 ghost use Rattle.def_grammar.specs.Forms.{name_in};
 ghost use Rattle.def_grammar.specs.Lines.{content_of, directive_of, load_of_name, without_last, words_in};
-ghost use Rattle.def_grammar.specs.Script.{line_at, session_number};
+ghost use Rattle.def_grammar.specs.Script.{line_at, session_number, word_fault, worker_number};
 ghost use Rattle.std.specs.Prelude.{◌≡◌, ◌<◌, ◌≤◌, ◌^◌, ◌==◌, ◌+◌, [], ◌∷◌, IfOk, IfSome, count_by, decimal, length, take_while};
+ghost use Rattle.std.specs.Str.Lossy.{utf8_valid_len};
 ghost use Rattle.wh_base.specs.Lists.{last, option_nat_is, same_text};
 ghost use Rattle.wh_script.specs.Sections.{HasFewBytes, HasTwo, IsNextWord, directive_in, is_session, is_space, meant, session_by_digits, two_digits, word_of};
 
 use itoa::Buffer;
 use std::alloc::{AllocError, Global};
+use wh_base::statements::ScriptKind;
 use wh_base::txt::Txt;
 use wh_ddl_text::refreshes::name_in;
 use wh_query_text::parser::ParseFault;
@@ -19,6 +21,8 @@ pub enum Directive<'a> {
     Session(&'a [u8]),
     /// The bytes in which the words behind `@order` stand.
     Order(&'a [u8]),
+    /// The word that should be a number of workers.
+    Workers(&'a [u8]),
     /// The name of the table.
     Load(Txt),
     EndLoad,
@@ -173,6 +177,8 @@ fn with_one<'a>(
         load_of(alloc, second)
     } else if is(word, b"@order") {
         Ok(Directive::Order(rest))
+    } else if is(word, b"@workers") {
+        Ok(Directive::Workers(second))
     } else {
         Ok(Directive::Unknown)
     }
@@ -248,6 +254,38 @@ pub fn session_number(word: &[u8]) -> Option<u32>
     ensures { result ≡ session_number word.now }
 {
     session_by_digits(word)
+}
+
+/// The number of workers that a word is: 1 to 8 in the same form; `None` for any other word.
+pub fn worker_number(word: &[u8]) -> Option<u32>
+    ensures { result ≡ worker_number word.now }
+{
+    let number = session_number(word)?;
+    if number <= 8 { Some(number) } else { None }
+}
+
+/// How many bytes in front are UTF-8.
+#[tactic(auto, using(crate::proofs::Behind::valid))]
+pub(crate) fn valid_len(bytes: &[u8]) -> usize
+    ensures count { result ≡ utf8_valid_len bytes.now }
+    ensures within { result ≤ length bytes.now }
+{
+    match std::str::from_utf8(bytes) {
+        Ok(_) => bytes.len(),
+        Err(fault) => fault.valid_up_to(),
+    }
+}
+
+/// What is wrong with a word that is no number of a session, or of workers: `NotUtf8` where it begins with a byte that is no
+/// UTF-8, and else `SessionNumber`.
+pub fn word_fault(word: &[u8]) -> ScriptKind
+    ensures { result ≡ word_fault word.now }
+{
+    if valid_len(word) == 0 {
+        ScriptKind::NotUtf8
+    } else {
+        ScriptKind::SessionNumber
+    }
 }
 
 /// A place in a text and the number of its line, counted from 1.

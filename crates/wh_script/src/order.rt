@@ -1,33 +1,39 @@
 ghost use Rattle.def_grammar.specs.Lines.{words_in};
 ghost use Rattle.def_grammar.specs.Script.{is_section_of, is_too_long, is_unknown, order_fault, parts_in};
 ghost use Rattle.std.specs.List.{list_any};
-ghost use Rattle.std.specs.Prelude.{◌≡◌, ◌&&◌, ◌==◌, ◌<◌, ◌^◌, [], IfOk, count_by, false, length, not};
+ghost use Rattle.std.specs.Prelude.{◌≡◌, ◌&&◌, ◌==◌, ◌<◌, ◌^◌, [], count_by, false, length, not};
 ghost use Rattle.wh_base.specs.Parts.{parts_of, section_entries};
 ghost use Rattle.wh_script.specs.Drafts.{is_named_too_often, numbers_behind};
+ghost use Rattle.wh_script.specs.Sections.{Gives};
 
-use crate::lines::{next_word, session_number};
-use std::alloc::{AllocError, Global};
+use crate::draft::bad;
+use crate::fault::ScriptFault;
+use crate::lines::{next_word, session_number, word_fault};
+use std::alloc::Global;
 use wh_base::seq::Seq;
 use wh_base::statements::{BadScript, Command, ScriptKind, Section, Statement};
 
-/// The session numbers that the words of an order are; `None` where a word is no session number.
+/// The session numbers that the words of an order are.
 ///
-/// An error says that memory ran out.
+/// `Bad`, on this line, is what is wrong with the first word that is no session number: `NotUtf8` where it begins with a byte
+/// that is no UTF-8, and else `SessionNumber`. `Memory` says that memory ran out.
 #[tactic(auto, using(crate::proofs::Orders::numbers))]
-pub fn order_numbers(alloc: Global, words: &[u8]) -> Result<Option<Seq<u32>>, AllocError>
+pub fn order_numbers(alloc: Global, line: u64, words: &[u8]) -> Result<Seq<u32>, ScriptFault>
     requires { length words.now < 2 ^ 32 }
-    ensures { IfOk result (λ numbers. numbers ≡ numbers_behind [] (words_in words.now)) }
+    ensures { Gives result (numbers_behind line [] (words_in words.now)) }
 {
     let mut numbers = Seq::new(alloc);
     let mut rest = words;
     while let Some(next) = next_word(rest) {
         let Some(number) = session_number(next.word) else {
-            return Ok(None);
+            return Err(bad(line, word_fault(next.word)));
         };
-        numbers.push(number)?;
+        let Ok(()) = numbers.push(number) else {
+            return Err(ScriptFault::Memory);
+        };
         rest = next.rest;
     }
-    Ok(Some(numbers))
+    Ok(numbers)
 }
 
 /// The fault of an order of these sessions, on this line: `OrderUnknown` for a session that isn't there, then

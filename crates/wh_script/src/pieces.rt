@@ -137,10 +137,9 @@ fn read_run(
     requires built { draft_is_built draft ≡ true }
     ensures { IsStep at.now.bytes.now at.now.valid draft at.now.mark.place result }
 {
-    let place = at.mark.place;
-    let end = place + size.min(at.valid.saturating_sub(place));
-    match draft.read_text(alloc, at.bytes, at.mark, end) {
-        Ok(draft) => walk_on(draft, at, size, place + size),
+    let end = at.mark.place + size;
+    match draft.read_text(alloc, at.bytes, at.valid, at.mark, end) {
+        Ok(draft) => Ok(Walked::On(draft, mark_at(at.bytes, at.mark, end))),
         Err(fault) => Err(fault),
     }
 }

@@ -1,10 +1,10 @@
 ghost use Rattle.def_built.specs.Commands.{commands_are_built};
-ghost use Rattle.def_built.specs.Form.{draft_is_built, sections_are_built};
+ghost use Rattle.def_built.specs.Form.{draft_is_built, sections_are_built, views_are_built};
 ghost use Rattle.def_grammar.specs.Script.{line_at, sections_of, take_directive, take_load, take_statement, text_elements, where_built};
 ghost use Rattle.std.specs.List.{list_all};
 ghost use Rattle.std.specs.Prelude.{◌≡◌, ◌<◌, ◌≤◌, ◌-◌, ◌^◌, ◌++◌, ◌∷◌, [], IfOk, Ok, drop, length, take, true};
 ghost use Rattle.wh_lex.specs.Lex.{token_fits};
-ghost use Rattle.wh_script.specs.Built.{IsBuiltBefore, but_last, may_stand, shorter_section};
+ghost use Rattle.wh_script.specs.Built.{IsBuiltBefore, but_last, may_stand, parts_are_built, shorter_section};
 ghost use Rattle.wh_script.specs.Drafts.{stated};
 ghost use Rattle.wh_script.specs.Pieces.{IsTaken};
 ghost use Rattle.wh_script.specs.Sections.{Gives, HasFewBytes, meant};
@@ -21,7 +21,8 @@ use wh_base::txt::Txt;
 use wh_lex::lex::StatementTokens;
 
 impl Draft {
-    /// The draft behind the statements of the text that runs from a mark up to `end`, without what stands behind it.
+    /// The draft behind the statements of the text that runs from a mark up to `end`, without what stands behind it, where the
+    /// first `valid` bytes are UTF-8.
     ///
     /// `Bad` is the first fault of the text, as `TextAt::next` has it. `Memory` says that memory ran out. The time is that of
     /// the text: each statement is lexed once, and the one before a byte that can't be read twice.
@@ -29,6 +30,7 @@ impl Draft {
         self,
         alloc: Global,
         bytes: &[u8],
+        valid: usize,
         mark: LineMark,
         end: usize,
     ) -> Result<Draft, ScriptFault>
@@ -37,7 +39,7 @@ impl Draft {
         requires later { mark.place ≤ end }
         requires within { end ≤ length bytes.now }
         requires built { draft_is_built self ≡ true }
-        ensures taken { IsTaken bytes.now self (text_elements mark.place (take (end - mark.place) (drop mark.place bytes.now))) result }
+        ensures taken { IsTaken bytes.now self (text_elements valid mark.place (take (end - mark.place) (drop mark.place bytes.now))) result }
         ensures built { IfOk result (λ d. draft_is_built d ≡ true) }
     {
         let mut text = TextAt {
@@ -46,7 +48,7 @@ impl Draft {
             at: mark.place,
         };
         while text.at < end {
-            text = text.next(alloc, bytes, end)?;
+            text = text.next(alloc, bytes, valid, end)?;
         }
         Ok(text.draft)
     }
@@ -137,9 +139,24 @@ impl Draft {
         requires { IsBuiltBefore self.now }
         ensures { result ≡ draft_is_built self.entry.now }
     {
-        self.are_sections_built()
-            && (self.block.is_none() || is_built(Form::Block))
+        self.are_sections_built() && self.are_views_built() && self.are_parts_built()
+    }
+
+    // Whether no view may stand over a view where that isn't built.
+    #[tactic(auto, using(crate::proofs::Nesting::built))]
+    fn are_views_built(&self) -> bool
+        ensures { result ≡ views_are_built (sections_of self.entry.now) }
+    {
+        !self.views.nest || is_built(Form::Nested)
+    }
+
+    // Whether its block, its order and its workers are built where they are there.
+    fn are_parts_built(&self) -> bool
+        ensures { result ≡ parts_are_built self.entry.now }
+    {
+        (self.block.is_none() || is_built(Form::Block))
             && (self.order.is_none() || is_built(Form::Order))
+            && (self.workers.is_none() || is_built(Form::Workers))
     }
 
     #[tactic(auto, using(crate::proofs::Steps::sections))]

@@ -26,7 +26,7 @@ abbrev pub named_app : App
 named_app = on_top (λ s. record s { no_binary_name = true }) (new_app (codes "mviewdb"))
 
 abbrev pub app : App
-app = with_rule (with_rule named_app form_rule) (new_rule (codes "sales"))
+app = with_rule (with_rule named_app form_rule) (new_rule (codes "number"))
 
 pub app_is_free : is_simple_and_free app ≡ true
 app_is_free = refl
@@ -62,7 +62,7 @@ row id value = record { id = id; values = value ∷ []; count = None; source = S
 abbrev after_two : List ℕ → List ℕ → Walk
 after_two a b =
     record {
-      held = record { rows = row (codes "form") a ∷ []; pending = Some (codes "sales", b ∷ []); skip = 0 };
+      held = record { rows = row (codes "form") a ∷ []; pending = Some (codes "number", b ∷ []); skip = 0 };
       waiting = idle;
       position = 3;
       is_trailing = false;
@@ -92,7 +92,7 @@ third_turn a b c plain = rw (strip_none c plain, not_dashes c plain, strip_none 
 -- ---- what clap finds
 
 abbrev found_in : List Row → Option (List (List ℕ))
-found_in rows = option_map (λ w. w ∷ option_to_list (first_of (codes "sales") rows)) (first_of (codes "form") rows)
+found_in rows = option_map (λ w. w ∷ option_to_list (first_of (codes "number") rows)) (first_of (codes "form") rows)
 
 no_words : fault_of app [] ≡ kind.MissingRequiredArgument ∷ []
 unfolding clap_on_literals
@@ -171,7 +171,7 @@ found_words (a ∷ b ∷ c ∷ more) plain none =
 
 pub found_in_matches : (m : ArgMatches) (ws : List (List ℕ)) → list_all is_plain ws ≡ true → rows_of (found_of m) ≡ matches_of app ws → fault_of app ws ≡ [] → words_in m ≡ one_or_two ws
 found_in_matches m ws plain rows none =
-    ap₂ (λ (form sales : Option (List ℕ)). option_map (λ w. w ∷ option_to_list sales) form) (first_value-rows (found_of m) (codes "form")) (first_value-rows (found_of m) (codes "sales"))
+    ap₂ (λ (form number : Option (List ℕ)). option_map (λ w. w ∷ option_to_list number) form) (first_value-rows (found_of m) (codes "form")) (first_value-rows (found_of m) (codes "number"))
     ∙ (ap found_in rows ∙ found_words ws plain none)
 
 pub failed_words : (k : ErrorKind) (ws : List (List ℕ)) → list_all is_plain ws ≡ true → IsAmong k (fault_of app ws) → one_or_two ws ≡ None

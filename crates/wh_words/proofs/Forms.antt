@@ -1,5 +1,5 @@
 -- Words that are no text, or that begin with a hyphen, name no form, and neither do three or more.
-use Rattle.std.proofs.Common.{◌≡◌, ◌≢◌, ◌∙◌, ◌<◌, ◌^◌, ◌&&◌, ℕ, List, Bool, Option, None, Some, [], ◌∷◌, true, false, refl, ap, sym, subst, arith, rules, true≢false, cond, codes, option_map}
+use Rattle.std.proofs.Common.{◌≡◌, ◌∙◌, ◌<◌, ◌^◌, ◌&&◌, ℕ, List, Bool, Option, None, Some, [], ◌∷◌, true, false, refl, ap, ap₂, sym, subst, arith, rules, true≢false, cond, codes, option_map}
 use Rattle.std.specs.Prelude.{decimal, option_and_then, ◌==◌}
 use Rattle.std.specs.Option.{is_some}
 use Rattle.std.specs.Str.{is_utf8}
@@ -10,12 +10,16 @@ use Rattle.std.proofs.lemmas.Fmt.{IsAscii-decimal}
 use Rattle.std.proofs.lemmas.Slice.Eq.{bytes_eq-Decides}
 use Rattle.wh_base.specs.Lists.{same_text, where_true}
 use Rattle.wh_base.specs.Values.{digits_number}
+use Rattle.wh_base.specs.declared.values.Version.TheVariants.{One, Two}
 use Rattle.def_output.specs.Output.{Checking, Form, Generating, Ordering, gen_number}
 use Rattle.wh_words.proofs.Sales.{is_sales, range_of, same_of}
 use Rattle.wh_words.specs.Words.{built, built_form, has_hyphen, is_plain, one_or_two}
 
 order_is_plain : is_plain (codes "order") ≡ true
 order_is_plain = is_utf8-from_IsUtf8 (codes "order") (IsUtf8-from_ascii (codes "order") (search rules))
+
+one_is_plain : is_plain (codes "1") ≡ true
+one_is_plain = is_utf8-from_IsUtf8 (codes "1") (IsUtf8-from_ascii (codes "1") (search rules))
 
 gen_is_plain : is_plain (codes "gen") ≡ true
 gen_is_plain = is_utf8-from_IsUtf8 (codes "gen") (IsUtf8-from_ascii (codes "gen") (search rules))
@@ -51,7 +55,7 @@ no_sales w (Some n) e flag = go (is_sales w n) refl
 -- ---- words that aren't plain name no form
 
 abbrev built_one : Bool → Bool → Option Form
-built_one order check = option_and_then built (cond order (Some Ordering) (where_true check Checking))
+built_one order check = option_and_then built (cond order (Some (Ordering Two)) (where_true check Checking))
 
 one_unplain : (w : List ℕ) (order check : Bool) → same_text w (codes "order") ≡ order → is_plain w ≡ false → None ≡ built_one order check
 one_unplain w false false e flag = refl
@@ -60,16 +64,21 @@ one_unplain w true check e flag =
     let same : w ≡ codes "order" = (bytes_eq-Decides w (codes "order")).0 e in
     absurd (true≢false (sym order_is_plain ∙ (ap is_plain (sym same) ∙ flag)))
 
-abbrev built_two : Bool → Option ℕ → Option Form
-built_two gen sales = option_and_then built (cond gen (option_map Generating sales) None)
+abbrev built_two : Bool → Bool → Bool → Option ℕ → Option Form
+built_two gen order one sales = option_and_then built (cond gen (option_map Generating sales) (where_true (order && one) (Ordering One)))
 
-two_unplain : (w n : List ℕ) (gen : Bool) → same_text w (codes "gen") ≡ gen → (is_plain w && (is_plain n && true)) ≡ false → None ≡ built_two gen (gen_number n)
-two_unplain w n false e flag = refl
-two_unplain w n true e flag =
+two_unplain : (w n : List ℕ) (gen order one : Bool) → same_text w (codes "gen") ≡ gen → same_text w (codes "order") ≡ order → same_text n (codes "1") ≡ one → (is_plain w && (is_plain n && true)) ≡ false → None ≡ built_two gen order one (gen_number n)
+two_unplain w n false false one e f g flag = refl
+two_unplain w n false true false e f g flag = refl
+two_unplain w n false true true e f g flag =
+    let first : is_plain w ≡ true = ap is_plain ((bytes_eq-Decides w (codes "order")).0 f) ∙ order_is_plain in
+    let second : is_plain n ≡ true = ap is_plain ((bytes_eq-Decides n (codes "1")).0 g) ∙ one_is_plain in
+    absurd (true≢false (sym (ap₂ (λ a b. a && (b && true)) first second) ∙ flag))
+two_unplain w n true order one e f g flag =
     let same : w ≡ codes "gen" = (bytes_eq-Decides w (codes "gen")).0 e in
     let first : is_plain w ≡ true = ap is_plain same ∙ gen_is_plain in
     let second : is_plain n ≡ false = second_of (is_plain w) (is_plain n) first flag in
-    ap (built_two true) (no_sales n (digits_number n) refl second)
+    ap (built_two true order one) (no_sales n (digits_number n) refl second)
   where
     second_of : (a b : Bool) → a ≡ true → (a && (b && true)) ≡ false → b ≡ false
     second_of true true t f = f
@@ -83,7 +92,7 @@ plain_one false e = refl
 unplain_none : (ws : List (List ℕ)) → list_all is_plain ws ≡ false → None ≡ built_form ws
 unplain_none [] flag = refl
 unplain_none (w ∷ []) flag = one_unplain w (same_text w (codes "order")) (same_text w (codes "check")) refl (plain_one (is_plain w) flag)
-unplain_none (w ∷ n ∷ []) flag = two_unplain w n (same_text w (codes "gen")) refl flag
+unplain_none (w ∷ n ∷ []) flag = two_unplain w n (same_text w (codes "gen")) (same_text w (codes "order")) (same_text n (codes "1")) refl refl refl flag
 unplain_none (a ∷ b ∷ c ∷ more) flag = refl
 
 -- ---- what the calls leave

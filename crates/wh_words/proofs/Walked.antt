@@ -7,7 +7,7 @@ use Rattle.std.specs.Option.{is_some, unwrap_or}
 use Rattle.wh_base.specs.Lists.{where_true}
 use Rattle.wh_words.specs.Words.{is_plain}
 
-abbrev texts : List (Bor (List ℕ)) → List (List ℕ)
+abbrev pub texts : List (Bor (List ℕ)) → List (List ℕ)
 texts = map (λ t. t.now)
 
 -- the texts with the words to come, where these are plain

@@ -10,7 +10,7 @@ use Rattle.wh_words.specs.declared.places.Placed.{Placed}
 
 -- The form where the program runs it so far: all but the check of a transcript.
 abbrev pub built : Form → Option Form
-built Ordering = Some Ordering
+built (Ordering version) = Some (Ordering version)
 built Checking = None
 built (Generating n) = Some (Generating n)
 
@@ -20,7 +20,7 @@ built_form words = option_and_then built (form_of words)
 
 -- The form that a value of the program's own stands for.
 abbrev pub form_meant : Words → Form
-form_meant variants.Order = Ordering
+form_meant (variants.Order version) = Ordering version
 form_meant (variants.Generate n) = Generating n
 
 -- The word begins with a hyphen (45).
@@ -40,8 +40,8 @@ one_or_two _ = None
 
 -- The words that stand at the two places.
 abbrev pub words_at : Placed → List (List ℕ)
-words_at p = p.form.now ∷ option_to_list (option_map (λ s. s.now) p.sales)
+words_at p = p.form.now ∷ option_to_list (option_map (λ s. s.now) p.number)
 
 -- The words that a parse put at the two places, none where it left the first one empty.
 abbrev pub words_in : ArgMatches → Option (List (List ℕ))
-words_in m = option_map (λ w. w ∷ option_to_list (first_value (found_of m) (codes "sales"))) (first_value (found_of m) (codes "form"))
+words_in m = option_map (λ w. w ∷ option_to_list (first_value (found_of m) (codes "number"))) (first_value (found_of m) (codes "form"))

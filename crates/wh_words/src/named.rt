@@ -6,6 +6,7 @@ ghost use Rattle.wh_words.specs.Words.{built_form, form_meant, words_at};
 use crate::Words;
 use crate::places::Placed;
 use itoa::Buffer;
+use wh_base::values::Version;
 
 /// How many digits the largest number of sales has.
 const MOST_DIGITS: usize = 6;
@@ -50,12 +51,19 @@ fn sales_of(word: &[u8]) -> Option<u32>
 pub(crate) fn named(placed: Placed<'_>) -> Option<Words>
     ensures { option_map form_meant result ≡ built_form (words_at placed.entry) }
 {
-    match placed.sales {
-        None if placed.form == "order" => Some(Words::Order),
+    match placed.number {
+        None if placed.form == "order" => Some(Words::Order(Version::Two)),
         None => None,
-        Some(sales) if placed.form == "gen" => {
-            let number = sales_of(sales.as_bytes())?;
-            Some(Words::Generate(number))
+        Some(number) if placed.form == "gen" => {
+            let sales = sales_of(number.as_bytes())?;
+            Some(Words::Generate(sales))
+        }
+        Some(number) if placed.form == "order" => {
+            if number == "1" {
+                Some(Words::Order(Version::One))
+            } else {
+                None
+            }
         }
         Some(_) => None,
     }

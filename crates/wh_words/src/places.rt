@@ -12,8 +12,8 @@ use std::alloc::{AllocError, Global};
 pub(crate) struct Placed<'a> {
     /// The first word.
     pub(crate) form: &'a str,
-    /// The second word, which only `gen` has.
-    pub(crate) sales: Option<&'a str>,
+    /// The second word: behind `order` the version of the transcript, behind `gen` the number of sales.
+    pub(crate) number: Option<&'a str>,
 }
 
 /// What clap finds in the words: a first word, which must be there, and a second one that may be missing. An error says that
@@ -24,11 +24,11 @@ fn parsed<'a>(alloc: Global, words: &'a [&'a str]) -> Result<ArgMatches<'a>, Err
     ensures err { IfErr result (λ e. (kind_of e ≡ ErrorKind.OutOfMemory) ⊎ (one_or_two (map (λ t. t.now) words.now) ≡ None)) }
 {
     let form = Arg::new(alloc, "form").required(true);
-    let sales = Arg::new(alloc, "sales");
+    let number = Arg::new(alloc, "number");
     let command = Command::new(alloc, "mviewdb")
         .no_binary_name(true)
         .arg(form)?
-        .arg(sales)?;
+        .arg(number)?;
     command.try_get_matches_from(words)
 }
 
@@ -39,7 +39,7 @@ fn by_place<'a>(matches: &ArgMatches<'a>) -> Option<Placed<'a>>
     let form = matches.get_str("form")?;
     Some(Placed {
         form,
-        sales: matches.get_str("sales"),
+        number: matches.get_str("number"),
     })
 }
 

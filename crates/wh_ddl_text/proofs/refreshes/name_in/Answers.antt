@@ -1,6 +1,5 @@
-use Rattle.std.proofs.Common.{◌∙◌, subst, sym}
+use Rattle.std.proofs.Common.{sym}
 use Rattle.wh_ddl_text.proofs.TextNames.{name_in-by, name_in-fault}
-use Rattle.wh_query_text.specs.Pieces.{Makes}
 use Rattle.wh_ddl_text.proofs.refreshes.name_in.Goals as goal
 
 pub returns-in-Ok : goal.returns-in-Ok

@@ -6,7 +6,7 @@ use Rattle.wh_script.proofs.order.order_numbers.Given as goal
 abbrev pub invariant-loop-next : goal.invariant-loop-next
 invariant-loop-next l = record {
   few : length l.rest ≤ length l.words;
-  all : numbers_behind l.numbers (words_in l.rest) ≡ numbers_behind [] (words_in l.words);
+  all : numbers_behind l.line l.numbers (words_in l.rest) ≡ numbers_behind l.line [] (words_in l.words);
 }
 
 abbrev pub decreases-loop-next : goal.decreases-loop-next

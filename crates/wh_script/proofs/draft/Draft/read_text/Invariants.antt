@@ -9,7 +9,7 @@ invariant-loop-text l = record {
   within : l.text.at ≤ l.end;
   mark : IsMark l.bytes l.text.at l.text.mark;
   built : draft_is_built l.text.draft ≡ true;
-  same : IsReadOn l.bytes l.end l.fn.self l.fn.mark.place l.text.draft l.text.at;
+  same : IsReadOn l.bytes l.valid l.end l.fn.self l.fn.mark.place l.text.draft l.text.at;
 }
 
 abbrev pub decreases-loop-text : goal.decreases-loop-text

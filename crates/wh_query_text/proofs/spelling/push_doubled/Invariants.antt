@@ -1,7 +1,0 @@
-use Rattle.std.proofs.Common.{◌≡◌, ◌++◌, drop}
-use Rattle.std.specs.Prelude.{flat_map}
-use Rattle.def_grammar.specs.Reading.{doubled}
-use Rattle.wh_query_text.proofs.spelling.push_doubled.Given as goal
-
-abbrev pub invariant-loop-byte : goal.invariant-loop-byte
-invariant-loop-byte l = l.out.items ++ flat_map doubled (drop l.byte-index l.text) ≡ l.initial.out.items ++ flat_map doubled l.text
