@@ -1,5 +1,6 @@
-//! The program: with the word `order` a script from standard input, its transcript to standard output; with `gen` and a number
-//! from 1 to 100000 the summary of the generated script with so many sales, to standard output.
+//! The program: with the word `order` a script from standard input, its transcript to standard output, in the second version,
+//! and with `order 1` in the first; with `gen` and a number from 1 to 100000 the summary of the generated script with so many
+//! sales, to standard output.
 //!
 //! All that it does is `top_order` of the crate `wh_top`; here are only the real words, counters, input and output that
 //! it is given, and the exit status and the line on standard error that say how it ended.

@@ -21,32 +21,34 @@ use Rattle.wh_base.specs.declared.tables.TableDef.{TableDef}
 use Rattle.wh_base.specs.declared.views.Plan.{Plan}
 use Rattle.wh_base.specs.declared.views.Plan.TheVariants as plan
 use Rattle.wh_base.specs.declared.views.ViewPlan.{ViewPlan}
-use Rattle.def_choice.specs.Choice.{asked_scn, back_reads, base_then, choice, plan_reads}
+use Rattle.def_choice.specs.Choice.{asked_scn, base_then, choice, class_is_built, plan_reads, view_reads}
 use Rattle.def_history.specs.Catalog.{Catalog, View, base_at, base_now, defs_now, view_numbered}
-use Rattle.def_history.specs.Staleness.{content}
+use Rattle.def_history.specs.Staleness.{content, stale_intervals}
 use Rattle.def_journal.specs.Answers.{answer, back_names, plan_line, plan_rows, scn_refusal, star_at, time_refusal}
 use Rattle.def_meaning.specs.Meaning.{in_order, meaning}
 use Rattle.def_meaning.specs.Ranges.{base_reads}
 use Rattle.def_resolve.specs.Names.{Source, column_named, names_refusal, sources_of, table_refusal}
 use Rattle.def_resolve.specs.Resolve.{first_table, grouping_holds, joins_of, kinds_refusal, resolve, resolved_item, star_form, star_query}
 use Rattle.def_resolve.specs.Star.{star_of}
-use Rattle.def_rewriting.specs.Matching.{query_tokens}
+use Rattle.def_restrictions.specs.Definition.{tracked_key}
+use Rattle.def_rewriting.specs.Classes.{class_reads}
 use Rattle.wh_answer.proofs.Evaluated.{found_all}
 use Rattle.wh_answer.proofs.Steps.{reply_by}
 use Rattle.wh_answer.specs.Answered.{HasView, answer_by, base_answer, enforced, entries_of, refusal, selected, view_answer}
 use Rattle.wh_answer.specs.Over.{IsImage, IsImageOf}
 use Rattle.wh_image.proofs.Lookup.{lookups}
 use Rattle.wh_image.specs.Standing.{StandsFor}
-use Rattle.wh_lex.specs.declared.token.Token.{Token}
+use Rattle.wh_base.specs.declared.tokens.Token.{Token}
 use Rattle.wh_resolve.specs.Gives.{Gives}
 use Rattle.wh_resolve.specs.declared.query.QueryFault.{QueryFault}
 use Rattle.wh_resolve.specs.declared.query.QueryFault.TheVariants.{Refused}
+use Rattle.wh_rewrite.specs.Served.{IsFullPlan}
 use Rattle.wh_table.specs.Kept as kept
 use Rattle.wh_table.specs.Stored.{Stored}
-use Rattle.wh_trace.specs.Reached.{catalog_of}
+use Rattle.law_trace.specs.Reached.{catalog_of}
 use Rattle.wh_view.specs.Kept.{AllKept, Kept, is_numbered}
-use Rattle.wh_view_law.specs.Laws.{Answers, Serves}
-use Rattle.wh_view_law.specs.Read.{ReadsAs}
+use Rattle.law_views.specs.Laws.{Answers, Serves}
+use Rattle.law_views.specs.Read.{ReadsAs}
 
 -- ---- star forms
 
@@ -103,15 +105,15 @@ module _ (scn : ℕ) (tables : List Stored) (views : AllKept) (trace : List Even
   over_now r h = ap (λ ds. resolve ds a.query) (lookups.definitions scn tables views (catalog_of trace) is.stands) ∙ h
 
   -- the reply by the star form, or by its refusal
-  pub selected_ok : (q : StarQuery) (r : Reply) → a.query.as_of ≡ None → resolve (kept.defs_of tables) a.query ≡ Ok q → r ≡ answer (catalog_of trace) (enforced enabled) a q → r ≡ selected (catalog_of trace) enabled a
+  pub selected_ok : (q : StarQuery) (r : Reply) → a.query.as_of ≡ None → resolve (kept.defs_of tables) a.query ≡ Ok q → r ≡ answer class_is_built (catalog_of trace) (enforced enabled) a q → r ≡ selected (catalog_of trace) enabled a
   selected_ok q r built h e =
       let c : Catalog = catalog_of trace in
-      e ∙ ap (reply_by (answer c (enforced enabled) a)) (sym (star_ok c a.query q built (over_now (Ok q) h)))
+      e ∙ ap (reply_by (answer class_is_built c (enforced enabled) a)) (sym (star_ok c a.query q built (over_now (Ok q) h)))
 
   pub selected_err : (code : Refusal) → resolve (kept.defs_of tables) a.query ≡ Err code → refusal code ≡ selected (catalog_of trace) enabled a
   selected_err code h =
       let c : Catalog = catalog_of trace in
-      ap (reply_by (answer c (enforced enabled) a)) (sym (star_err c a.query code (over_now (Err code) h)))
+      ap (reply_by (answer class_is_built c (enforced enabled) a)) (sym (star_err c a.query code (over_now (Err code) h)))
 
 -- the refusal that is given is that of the definition
 pub refused_is : (fault : QueryFault) (code : Refusal) (r : Result StarQuery Refusal) → fault ≡ Refused code → Gives (Err fault) r → r ≡ Err code
@@ -140,24 +142,30 @@ base_is scn c q at built =
     ap (λ (o : Option ℤ). (let s : ℕ = option_case o c.scn nat_abs in reply.Answer (record { scn = s; plan = BasePlan; read = base_reads q (base_at c s); rows = meaning q (base_at c s) }))) built
     ∙ ap (λ s. base_answer s q (base_now c)) at
 
+-- a view that answers by its full text reads no base row
+no_reads : (c : Catalog) (q : StarQuery) (p : ViewPlan) (v : View) → view_numbered c p.view ≡ Some v → IsFullPlan (plan.View p) → plan_reads c q (plan.View p) ≡ 0
+no_reads c q p v found full =
+    ap (λ (o : Option View). option_case o 0 (view_reads c q p)) found
+    ∙ (λ i. class_reads (base_now c) q (tracked_key v.def) (stale_intervals c v) (full.0 i) (full.1 i))
+
 view_is : (scn : ℕ) (tables : List Stored) (views : AllKept) (c : Catalog) (q : StarQuery) (p : ViewPlan) → StandsFor scn tables views c → q.as_of ≡ None → Serves c q p
-    → with_plan c q (plan.View p) ≡ view_answer scn q p (entries_of views p.view)
-view_is scn tables views c q p h built serves =
+    → IsFullPlan (plan.View p) → with_plan c q (plan.View p) ≡ view_answer scn q p (entries_of views p.view)
+view_is scn tables views c q p h built serves full =
     let at : asked_scn c q ≡ scn = ap (λ (o : Option ℤ). option_case o c.scn nat_abs) built ∙ h.scn_is in
     let found = found_kept scn tables views c p.view serves.view h serves.found in
     let stored : content c serves.view ≡ entries_of views p.view = sym found.1.1 ∙ ap (λ o. option_case o [] (λ (k : Kept). k.entries)) (sym found.1.0) in
     let rows : meaning q (base_then c q) ≡ in_order q.order (map (λ e. e.row) (entries_of views p.view)) = serves.rows ∙ ap (λ es. in_order q.order (map (λ e. e.row) es)) stored in
-    (λ i. reply.Answer (record { scn = at i; plan = ViewAt p.class p.name p.point (back_names c (serves.alone i)); read = back_reads (base_now c) (serves.alone i); rows = rows i }))
+    (λ i. reply.Answer (record { scn = at i; plan = ViewAt p.class p.name p.point (back_names c (full.1 i)); read = no_reads c q p serves.view serves.found full i; rows = rows i }))
 
-module _ (scn : ℕ) (tables : List Stored) (views : AllKept) (a : Asked) (q : StarQuery) (enabled : Bool) (text : List Token) (same : text ≡ query_tokens a.text)
+module _ (scn : ℕ) (tables : List Stored) (views : AllKept) (a : Asked) (q : StarQuery) (enabled : Bool) (text : List Token) (same : text ≡ a.tokens)
     (reads : ReadsAs a) (built : a.query.as_of ≡ None) (resolved : resolve (kept.defs_of tables) a.query ≡ Ok q) (answers : Answers) (p : Plan)
-    (chosen : (c : Catalog) → StandsFor scn tables views c → p ≡ choice c q text Enforced enabled) where
-  chosen_is : (trace : List Event) → IsImageOf trace scn tables views → choice (catalog_of trace) q (query_tokens a.text) Enforced enabled ≡ p
-  chosen_is trace is = ap (λ ts. choice (catalog_of trace) q ts Enforced enabled) (sym same) ∙ sym (chosen (catalog_of trace) is.stands)
+    (chosen : (c : Catalog) → StandsFor scn tables views c → p ≡ choice class_is_built c q text Enforced enabled) where
+  chosen_is : (trace : List Event) → IsImageOf trace scn tables views → choice class_is_built (catalog_of trace) q a.tokens Enforced enabled ≡ p
+  chosen_is trace is = ap (λ ts. choice class_is_built (catalog_of trace) q ts Enforced enabled) (sym same) ∙ sym (chosen (catalog_of trace) is.stands)
 
   serves : (trace : List Event) → IsImageOf trace scn tables views → (w : ViewPlan) → p ≡ plan.View w → Serves (catalog_of trace) q w
   serves trace is w e =
-      answers.chosen trace (query_tokens a.text) a.query q enabled w is.read reads (over_now scn tables views trace is enabled a (Ok q) resolved) (chosen_is trace is ∙ e)
+      answers.chosen trace a.tokens a.query q enabled w is.read reads (over_now scn tables views trace is enabled a (Ok q) resolved) (chosen_is trace is ∙ e)
 
   no_as_of : q.as_of ≡ None
   no_as_of = as_of_kept (kept.defs_of tables) a.query q resolved ∙ built
@@ -171,9 +179,9 @@ module _ (scn : ℕ) (tables : List Stored) (views : AllKept) (a : Asked) (q : S
           let said = serves is.trace is.is w e in
           subst IsSome (sym (found_kept scn tables views (catalog_of is.trace) w.view said.view is.is.stands said.found).1.0) refl
 
-  pub answer_is : (trace : List Event) → IsImageOf trace scn tables views → answer_by scn views q (base_now (catalog_of trace)) p ≡ answer (catalog_of trace) (enforced enabled) a q
-  answer_is trace is = sym (ap (with_plan (catalog_of trace) q) (chosen_is trace is) ∙ by p refl)
+  pub answer_is : IsFullPlan p → (trace : List Event) → IsImageOf trace scn tables views → answer_by scn views q (base_now (catalog_of trace)) p ≡ answer class_is_built (catalog_of trace) (enforced enabled) a q
+  answer_is full trace is = sym (ap (with_plan (catalog_of trace) q) (chosen_is trace is) ∙ by p refl)
     where
       by : (w : Plan) → p ≡ w → with_plan (catalog_of trace) q w ≡ answer_by scn views q (base_now (catalog_of trace)) w
       by plan.Base e = base_is scn (catalog_of trace) q is.stands.scn_is no_as_of
-      by (plan.View w) e = view_is scn tables views (catalog_of trace) q w is.stands no_as_of (serves trace is w e)
+      by (plan.View w) e = view_is scn tables views (catalog_of trace) q w is.stands no_as_of (serves trace is w e) (subst IsFullPlan e full)

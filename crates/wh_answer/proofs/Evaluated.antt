@@ -19,10 +19,10 @@ use Rattle.wh_evaluate.specs.Shown.{HasKeys, Shows, are_numbered, are_placed, is
 use Rattle.wh_image.proofs.Lookup.{lookups}
 use Rattle.wh_table.specs.Kept.{no_key, no_part, tables_at}
 use Rattle.wh_table.specs.Stored.{Stored, base_seen, seen}
-use Rattle.wh_trace.specs.Laws.{RowLaws}
-use Rattle.wh_trace.specs.Reached.{catalog_of}
+use Rattle.law_trace.specs.Laws.{RowLaws}
+use Rattle.law_trace.specs.Reached.{catalog_of}
 use Rattle.wh_view.specs.Kept.{AllKept, Kept, is_numbered}
-use Rattle.wh_view_law.specs.Laws.{IsOfTextNow, TableSizes, ViewTexts}
+use Rattle.law_views.specs.Laws.{IsOfTextNow, TableSizes, ViewTexts}
 
 -- what is so of each item is so of one that is found
 pub found_all : {A : Type 0} (P : A → Type 0) (p : A → Bool) (xs : List A) (x : A) → All P xs → find p xs ≡ Some x → P x
@@ -87,5 +87,7 @@ module _ (scn : ℕ) (tables : List Stored) (views : AllKept) (trace : List Even
   pub view_can : (texts : ViewTexts) (n : ℕ) (k : Kept) → find (is_numbered n) views.views ≡ Some k → CanAnswer scn tables (catalog_of trace) k.view.def.query
   view_can texts n k found =
       let there : view_numbered (catalog_of trace) n ≡ Some k.view = lookups.numbered scn tables views (catalog_of trace) n is.stands ∙ ap (option_map (λ (k : Kept). k.view)) found in
-      let text : IsOfTextNow (catalog_of trace) k.view = found_all (IsOfTextNow (catalog_of trace)) (λ v. v.def.view == n) (catalog_of trace).views k.view (texts.now trace is.read) there in
+      let over : k.view.def.beneath ≡ None = found_all (λ v. v.def.beneath ≡ None) (λ v. v.def.view == n) (catalog_of trace).views k.view is.stands.over_tables there in
+      let text : IsOfTextNow (catalog_of trace) k.view =
+      found_all (λ v. v.def.beneath ≡ None → IsOfTextNow (catalog_of trace) v) (λ v. v.def.view == n) (catalog_of trace).views k.view (texts.now trace is.read) there over in
       can_answer text.query k.view.def.query text.resolved

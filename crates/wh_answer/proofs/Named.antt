@@ -14,7 +14,7 @@ use Rattle.wh_answer.specs.Over.{IsImageOf}
 use Rattle.wh_image.proofs.Lookup.{lookups}
 use Rattle.wh_image.specs.Standing.{StandsFor}
 use Rattle.wh_table.specs.Stored.{Stored}
-use Rattle.wh_trace.specs.Reached.{catalog_of}
+use Rattle.law_trace.specs.Reached.{catalog_of}
 use Rattle.wh_view.specs.Kept.{AllKept, Kept, is_named}
 
 -- an item that is found has a place

@@ -7,6 +7,7 @@ use Rattle.wh_base.specs.declared.statements.Asked.{Asked}
 use Rattle.wh_base.specs.declared.statements.Level.{Level}
 use Rattle.wh_base.specs.declared.statements.Level.TheVariants.{Enforced}
 use Rattle.wh_base.specs.declared.statements.ShowStatement.TheVariants.{ShowView}
+use Rattle.def_choice.specs.Choice.{class_is_built}
 use Rattle.def_history.specs.Catalog.{Catalog, View}
 use Rattle.def_journal.specs.Answers.{answer, select, star_at}
 use Rattle.def_journal.specs.Explaining.{show_view, shown, the_view}
@@ -28,12 +29,12 @@ step_replies s give (Err code) = refl
 step_replies s give (Ok x) = refl
 
 abbrev answer_at : Catalog → Bool → Asked → StarQuery → Level → Reply
-answer_at c rewrite a q level = answer c (record (new_session 0) { level = level; rewrite = rewrite }) a q
+answer_at c rewrite a q level = answer class_is_built c (record (new_session 0) { level = level; rewrite = rewrite }) a q
 
 selects_step : (s : State) (x : Session) (a : Asked) → x.level ≡ Enforced → select s x a ≡ replied s (selected (image_of s x) x.rewrite a)
 selects_step s x a h =
     let c : Catalog = image_of s x in
-    (λ i. step_by s (λ q. answer_at c x.rewrite a q (h i)) (star_at c a.query)) ∙ step_replies s (answer c (enforced x.rewrite) a) (star_at c a.query)
+    (λ i. step_by s (λ q. answer_at c x.rewrite a q (h i)) (star_at c a.query)) ∙ step_replies s (answer class_is_built c (enforced x.rewrite) a) (star_at c a.query)
 
 pub selects : Selects
 selects = record { step = selects_step }

@@ -18,7 +18,7 @@ use Rattle.wh_evaluate.specs.Shown.{CanEvaluate, Shows}
 use Rattle.wh_image.proofs.Lookup.{lookups}
 use Rattle.wh_table.specs.Kept.{no_key, no_part, tables_at}
 use Rattle.wh_table.specs.Stored.{Stored}
-use Rattle.wh_trace.specs.Reached.{catalog_of}
+use Rattle.law_trace.specs.Reached.{catalog_of}
 use Rattle.wh_view.specs.Kept.{AllKept, Kept, is_numbered}
 
 abbrev pub ShowsBase : ℕ → List Stored → Base → Type 0

@@ -16,6 +16,7 @@ use Rattle.wh_base.specs.declared.views.Plan.{Plan}
 use Rattle.wh_base.specs.declared.views.Plan.TheVariants as plan
 use Rattle.wh_base.specs.declared.views.ViewEntry.{ViewEntry}
 use Rattle.wh_base.specs.declared.views.ViewPlan.{ViewPlan}
+use Rattle.def_choice.specs.Choice.{class_is_built}
 use Rattle.def_history.specs.Catalog.{Catalog, View, base_now, defs_now}
 use Rattle.def_journal.specs.Answers.{answer, select, star_at}
 use Rattle.def_journal.specs.Explaining.{show_view, the_view}
@@ -28,7 +29,7 @@ use Rattle.wh_answer.specs.Over.{IsImageOf}
 use Rattle.wh_evaluate.specs.Shown.{CanEvaluate, Shows}
 use Rattle.wh_table.specs.Kept.{no_key, no_part, tables_at}
 use Rattle.wh_table.specs.Stored.{Stored}
-use Rattle.wh_trace.specs.Reached.{catalog_of}
+use Rattle.law_trace.specs.Reached.{catalog_of}
 use Rattle.wh_view.specs.Kept.{AllKept, Kept, is_numbered}
 
 -- ---- queries over the tables of an image
@@ -67,7 +68,7 @@ selected c enabled a = answered (star_at c a.query)
   where
     answered : Result StarQuery Refusal → Reply
     answered (Err code) = refusal code
-    answered (Ok q) = answer c (enforced enabled) a q
+    answered (Ok q) = answer class_is_built c (enforced enabled) a q
 
 -- The answer from the base rows.
 abbrev pub base_answer : ℕ → StarQuery → Base → Reply

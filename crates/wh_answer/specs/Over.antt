@@ -3,9 +3,9 @@ use Rattle.std.specs.Prelude.{List, ℕ}
 use Rattle.wh_base.specs.declared.statements.Event.{Event}
 use Rattle.wh_image.specs.Standing.{StandsFor}
 use Rattle.wh_table.specs.Stored.{Stored}
-use Rattle.wh_trace.specs.Reached.{catalog_of}
+use Rattle.law_trace.specs.Reached.{catalog_of}
 use Rattle.wh_view.specs.Kept.{AllKept}
-use Rattle.wh_view_law.specs.Read.{AreRead}
+use Rattle.law_views.specs.Read.{AreRead}
 
 -- The image with these tables and views at this SCN is the catalog that the trace leaves, and each command of the trace asks what its text reads as.
 pub record IsImageOf (trace : List Event) (scn : ℕ) (tables : List Stored) (views : AllKept) : Type 0 where

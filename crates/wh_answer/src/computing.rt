@@ -11,7 +11,7 @@ ghost use Rattle.wh_base.specs.declared.statements.Event.{Event};
 ghost use Rattle.wh_base.specs.declared.statements.Method.TheVariants.{Complete};
 ghost use Rattle.wh_evaluate.specs.Shown.{CanEvaluate, Shows};
 ghost use Rattle.wh_table.specs.Kept.{no_key, no_part, tables_at};
-ghost use Rattle.wh_trace.specs.Reached.{catalog_of};
+ghost use Rattle.law_trace.specs.Reached.{catalog_of};
 ghost use Rattle.wh_view.specs.Kept.{is_numbered};
 
 use crate::laws::known;

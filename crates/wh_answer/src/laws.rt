@@ -1,10 +1,10 @@
 //! What is so of images and of the steps of the definitions. None of these functions does anything.
 ghost use Rattle.wh_answer.specs.Answered.{IsKnown, Selects, ShowsViews};
 
+use law_trace::laws::rows_are_right;
+use law_views::laws::{tables_have_sizes, views_are_of_texts};
 use wh_image::Image;
 use wh_table::tables_law;
-use wh_trace::laws::rows_are_right;
-use wh_view_law::laws::{tables_have_sizes, views_are_of_texts};
 
 /// What an image is known for: each query that resolves over the tables of its catalog can be evaluated over it, and so can
 /// the query of each of its views. The rows found are those of the catalog's base state, and 64 tables of 262,144 rows each are

@@ -1,37 +1,34 @@
 ghost use Rattle.std.specs.List.{find};
 ghost use Rattle.std.specs.Prelude.{◌≡◌, ◌+◌, ◌≤◌, ◌^◌, IfOk, IsSome, List, None, Ok, map};
+ghost use Rattle.def_choice.specs.Choice.{class_is_built};
 ghost use Rattle.def_journal.specs.Answers as answers;
 ghost use Rattle.def_meaning.specs.Ranges.{base_reads};
 ghost use Rattle.def_output.specs.Reads.{read_of};
 ghost use Rattle.def_resolve.specs.Resolve as resolving;
-ghost use Rattle.def_rewriting.specs.Matching as matching;
 ghost use Rattle.wh_answer.specs.Answered.{HasView, answer_by, base_answer, enforced, entries_of, most_reads, selected, view_answer};
 ghost use Rattle.wh_answer.specs.Over.{IsImage, IsImageOf};
 ghost use Rattle.wh_base.specs.Tables.{Base};
 ghost use Rattle.wh_base.specs.declared.statements.Event.{Event};
 ghost use Rattle.wh_evaluate.specs.Shown.{CanEvaluate, Shows};
 ghost use Rattle.wh_table.specs.Kept.{defs_of, no_key, no_part, tables_at};
-ghost use Rattle.wh_trace.specs.Reached.{catalog_of};
+ghost use Rattle.law_trace.specs.Reached.{catalog_of};
 ghost use Rattle.wh_view.specs.Kept.{is_numbered};
-ghost use Rattle.wh_view_law.specs.Read.{ReadsAs};
+ghost use Rattle.law_views.specs.Read.{ReadsAs};
 
 use crate::laws::known;
 use crate::replies::{ordered_rows, refused};
+use law_views::laws::views_answer;
 use std::alloc::{AllocError, Global};
 use wh_base::queries::StarQuery;
 use wh_base::reads::Reads;
 use wh_base::replies::{Answered, PlanLine, Reply};
 use wh_base::seq::Seq;
 use wh_base::statements::{Asked, Level};
-use wh_base::txt::Txt;
 use wh_base::views::{Plan, ViewPlan};
 use wh_evaluate::evaluate;
 use wh_image::Image;
-use wh_lex::lex::LexFault;
-use wh_lex::token::Token;
 use wh_resolve::{QueryFault, resolve};
-use wh_rewrite::{all_tokens, choose};
-use wh_view_law::laws::views_answer;
+use wh_rewrite::choose;
 
 /// The reply to a SELECT under ENFORCED over an image: the first refusal of its query, having read nothing; or its answer, by
 /// the plan that is chosen. A view's answer is what the view stores, in the query's order, and reads no base row; the answer of
@@ -80,36 +77,23 @@ fn answer<L>(
     requires built { asked.now.query.as_of ≡ None }
     requires resolved { resolving.resolve (defs_of image.now.tables.tables.items) asked.now.query ≡ Ok query.now }
     requires room { reads.old ≤ 2 ^ 63 }
-    ensures reply { (trace : List Event) → IsImageOf trace image.now.tables.scn image.now.tables.tables.items image.now.views → IfOk result (λ r. r ≡ answers.answer (catalog_of trace) (enforced enabled) asked.now query.now) }
+    ensures reply { (trace : List Event) → IsImageOf trace image.now.tables.scn image.now.tables.tables.items image.now.views → IfOk result (λ r. r ≡ answers.answer class_is_built (catalog_of trace) (enforced enabled) asked.now query.now) }
     ensures raised { IfOk result (λ r. reads.new ≡ reads.old + read_of r) }
     ensures least { reads.old ≤ reads.new }
     ensures most { reads.new ≤ reads.old + most_reads }
 {
     known(image);
     views_answer();
-    let text = query_tokens(alloc, &asked.text)?;
     let plan = choose(
         alloc,
         image,
         query,
-        text.as_slice(),
+        asked.tokens.as_slice(),
         Level::Enforced,
         enabled,
     )?;
     let reply = answer_by(alloc, image, query, plan, reads)?;
     Ok(reply)
-}
-
-// The tokens of a query's text; none where it can't be read as tokens, which the grammar has done before.
-fn query_tokens(alloc: Global, text: &Txt) -> Result<Seq<Token>, AllocError>
-    ensures { IfOk result (λ tokens. tokens ≡ matching.query_tokens text.now) }
-{
-    match all_tokens(alloc, text) {
-        Ok(tokens) => Ok(tokens),
-        Err(LexFault::Memory) => Err(AllocError),
-        Err(LexFault::BadCharacter { .. }) => Ok(Seq::new(alloc)),
-        Err(LexFault::OpenQuote { .. }) => Ok(Seq::new(alloc)),
-    }
 }
 
 // The answer by a plan.

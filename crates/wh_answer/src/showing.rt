@@ -5,7 +5,7 @@ ghost use Rattle.wh_answer.specs.Answered.{shown_view};
 ghost use Rattle.wh_answer.specs.Over.{IsImageOf};
 ghost use Rattle.wh_base.specs.declared.statements.Event.{Event};
 ghost use Rattle.wh_image.specs.Standing.{StandsFor};
-ghost use Rattle.wh_trace.specs.Reached.{catalog_of};
+ghost use Rattle.law_trace.specs.Reached.{catalog_of};
 ghost use Rattle.wh_view.specs.Kept.{AllKept};
 
 use crate::replies::{ordered_rows, refused};

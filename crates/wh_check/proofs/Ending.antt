@@ -3,12 +3,14 @@ use Rattle.std.proofs.Common.{◌≡◌, ◌∙◌, sym, ap, subst, refl, arith,
 use Rattle.std.proofs.lemmas.Bool.{lt-ltb, ltb-false, ltb-true}
 use Rattle.std.proofs.lemmas.List.{length-map}
 use Rattle.std.specs.List.{All, filter, list_all}
-use Rattle.std.specs.Prelude.{is_none}
-use Rattle.def_effect.specs.Block.{changed_row_refusal, final_refusal, max_rows, max_versions, new_versions, stop_at}
+use Rattle.std.specs.Prelude.{Result, is_none}
+use Rattle.def_effect.specs.Block.{Progress, Stopped, changed_row_refusal, final_refusal, made_changes, max_rows, max_versions, new_versions, stop_at}
+use Rattle.def_effect.proofs.Moving.{made-as_asked, unmoved-whole}
 use Rattle.wh_base.specs.Lists.{first_of, first_some, where_true}
 use Rattle.wh_base.specs.Tables.{Base, Table, TableChange, most_live, table_after, table_at, with_table}
 use Rattle.wh_base.specs.declared.replies.Refusal.{Refusal}
 use Rattle.wh_base.specs.declared.replies.Refusal.TheVariants.{TableFull, VersionsFull}
+use Rattle.wh_base.specs.declared.tables.Change.{Change}
 use Rattle.wh_base.specs.declared.tables.TableDef.{TableDef}
 use Rattle.wh_check.specs.Fresh.{AreMarked, changes_made, fresh_come, fresh_gone, fresh_of}
 use Rattle.wh_check.specs.Making.{AreWhole, Fails, Goes, HaveShape, HaveShapeOnceFit, ask_step, asked_refusal, asks_of, change_refusal, changes_refusal, done_at, has_places, inserts_in, is_small_change, room_refusal, versions_refusal}
@@ -144,11 +146,28 @@ module _ (scn kept : ℕ) (tables : List Stored) (n : ℕ) (cs : List RowChange)
       final_is after n kept changes
       ∙ (λ i. first_some (constraints_refusal (sym (base_then fit) i) n ∷ limits (name i).name (length (table_at after n).rows) (kept + new_versions after changes)))
 
-  step_is : (at : ℕ) (done : List TableChange) (had : ℕ) → ask_step kept (asks_of n cs scanned) at (done_at scn tables done had)
-      ≡ stop_at at (had + scanned) (first_some (changes_refusal s.def cs ∷ final_refusal after n kept (done ++ changes_made n cs) ∷ []))
-      (record { base = after; changes = done ++ changes_made n cs; scanned = had + scanned })
-  step_is at done had =
-      (λ i. stop_at at (had + scanned) (first_some (rows_are i ∷ final_refusal after n kept (done ++ made_is n cs i) ∷ [])) (record { base = after; changes = done ++ made_is n cs i; scanned = had + scanned }))
+  -- no row moves, so the changes that are made are those that are asked
+  as_asked : made_changes (table_at before n) (table_at before n).given (map change_of cs) ≡ map change_of cs
+  as_asked = made-as_asked (table_at before n) (unmoved-whole (table_at before n) own_whole) (table_at before n).given (map change_of cs)
+
+  -- the step where these changes are made
+  abbrev step_by : ℕ → List TableChange → ℕ → ℕ → List Change → Result Progress Stopped
+  step_by at done had rows made =
+      let new : Base = with_table before n (table_after (table_at before n) made) in
+      let all : List TableChange = done ++ map (λ c. record { table = n; change = c }) made in
+      stop_at at (had + scanned) (first_some (first_of (changed_row_refusal (table_at before n)) (map change_of cs) ∷ final_refusal new n kept all ∷ []))
+      (record { base = new; changes = all; scanned = had + scanned; rows = rows + length (map change_of cs) })
+
+  -- what the block has done behind it, where this is the base state
+  abbrev done_by : Base → List TableChange → ℕ → ℕ → Progress
+  done_by base done had rows = record { base = base; changes = done ++ changes_made n cs; scanned = had + scanned; rows = rows + length cs }
+
+  step_is : (at : ℕ) (done : List TableChange) (had rows : ℕ) → ask_step kept (asks_of n cs scanned) at (done_at scn tables done had rows)
+      ≡ stop_at at (had + scanned) (first_some (changes_refusal s.def cs ∷ final_refusal after n kept (done ++ changes_made n cs) ∷ [])) (done_by after done had rows)
+  step_is at done had rows =
+      ap (step_by at done had rows) as_asked
+      ∙ (λ i. stop_at at (had + scanned) (first_some (rows_are i ∷ final_refusal after n kept (done ++ made_is n cs i) ∷ []))
+      (record { base = after; changes = done ++ made_is n cs i; scanned = had + scanned; rows = rows + length-map cs change_of i }))
 
   rows_now : length (table_at before n).rows ≡ live_count s
   rows_now = ap (λ (t : Table). length t.rows) seen_is ∙ rows_seen scn s (settled_at scn tables n s settled e)
@@ -169,7 +188,7 @@ module _ (scn kept : ℕ) (tables : List Stored) (n : ℕ) (cs : List RowChange)
           absurd (omega (arith, over, count, few))
 
   pub refused : (code : Refusal) → asked_refusal scn tables n s cs ≡ Some code → Fails (ask_step kept (asks_of n cs scanned)) scn tables code scanned
-  refused code h = record { is = λ at done had marked. step_is at done had ∙ ap (λ o. stop_at at (had + scanned) o (record { base = after; changes = done ++ changes_made n cs; scanned = had + scanned })) (by_rows (changes_refusal s.def cs) refl h (done ++ changes_made n cs)) }
+  refused code h = record { is = λ at done had rows marked. step_is at done had rows ∙ ap (λ o. stop_at at (had + scanned) o (done_by after done had rows)) (by_rows (changes_refusal s.def cs) refl h (done ++ changes_made n cs)) }
     where
       by_room : (b : Bool) → changes_refusal s.def cs ≡ None → nat_lt max_rows (live_count s + inserts_in cs) ≡ b → first_some (where_true b (TableFull s.def.name) ∷ []) ≡ Some code → (changes : List TableChange)
           → first_some (limits s.def.name (length (table_at after n).rows) (kept + new_versions after changes)) ≡ Some code
@@ -256,11 +275,11 @@ module _ (scn kept : ℕ) (tables : List Stored) (n : ℕ) (cs : List RowChange)
           final rows_fit (done ++ changes_made n cs)
           ∙ (λ i. first_some (keys_hold i ∷ where_true (live_now i) (TableFull s.def.name) ∷ where_true (nat_lt max_versions (kept + versions i)) (VersionsFull s.def.name) ∷ []))
 
-      step_now : (at : ℕ) (done : List TableChange) (had : ℕ) → AreMarked scn tables done → ask_step kept (asks_of n cs scanned) at (done_at scn tables done had)
-          ≡ stop_at at (had + scanned) (first_some (first_some (versions_refusal s (kept + fresh_of scn new) ∷ []) ∷ [])) (done_at scn new (done ++ changes_made n cs) (had + scanned))
-      step_now at done had marked =
-          step_is at done had
-          ∙ (λ i. stop_at at (had + scanned) (first_some (rows_fit i ∷ final_now done marked i ∷ [])) (record { base = sym base_now i; changes = done ++ changes_made n cs; scanned = had + scanned }))
+      step_now : (at : ℕ) (done : List TableChange) (had rows : ℕ) → AreMarked scn tables done → ask_step kept (asks_of n cs scanned) at (done_at scn tables done had rows)
+          ≡ stop_at at (had + scanned) (first_some (first_some (versions_refusal s (kept + fresh_of scn new) ∷ []) ∷ [])) (done_at scn new (done ++ changes_made n cs) (had + scanned) (rows + length cs))
+      step_now at done had rows marked =
+          step_is at done had rows
+          ∙ (λ i. stop_at at (had + scanned) (first_some (rows_fit i ∷ final_now done marked i ∷ [])) (done_by (sym base_now i) done had rows))
 
       module _ (fresh old_fresh : ℕ) (old_is : old_fresh ≡ fresh_of scn tables) (sum : fresh + fresh_gone scn s cs ≡ old_fresh + fresh_come cs) where
         fresh_now : fresh ≡ fresh_of scn new
@@ -269,7 +288,7 @@ module _ (scn kept : ℕ) (tables : List Stored) (n : ℕ) (cs : List RowChange)
         pub overfull : (d : TableDef) (code : Refusal) → d ≡ s.def → where_true (nat_lt max_versions (kept + fresh)) (VersionsFull d.name) ≡ Some code → Fails (ask_step kept (asks_of n cs scanned)) scn tables code scanned
         overfull d code same h =
             let is : versions_refusal s (kept + fresh_of scn new) ≡ Some code = (λ i. where_true (nat_lt max_versions (kept + sym fresh_now i)) (VersionsFull (sym same i).name)) ∙ h in
-            record { is = λ at done had marked. step_now at done had marked ∙ ap (λ o. stop_at at (had + scanned) (first_some (first_some (o ∷ []) ∷ [])) (done_at scn new (done ++ changes_made n cs) (had + scanned))) is }
+            record { is = λ at done had rows marked. step_now at done had rows marked ∙ ap (λ o. stop_at at (had + scanned) (first_some (first_some (o ∷ []) ∷ [])) (done_at scn new (done ++ changes_made n cs) (had + scanned) (rows + length cs))) is }
 
         pub goes : (d : TableDef) (rows : ℕ) → d ≡ s.def → where_true (nat_lt max_versions (kept + fresh)) (VersionsFull d.name) ≡ None → rows ≡ length cs
             → Goes (ask_step kept (asks_of n cs scanned)) scn kept tables new rows fresh scanned
@@ -279,11 +298,10 @@ module _ (scn kept : ℕ) (tables : List Stored) (n : ℕ) (cs : List RowChange)
             record {
               table = n;
               changes = cs;
-              is = λ at done had marked. step_now at done had marked ∙ ap (λ o. stop_at at (had + scanned) (first_some (first_some (o ∷ []) ∷ [])) (done_at scn new (done ++ changes_made n cs) (had + scanned))) is;
+              is = λ at done had earlier marked. step_now at done had earlier marked ∙ (λ i. stop_at at (had + scanned) (first_some (first_some (is i ∷ []) ∷ [])) (done_at scn new (done ++ changes_made n cs) (had + scanned) (earlier + sym count i)));
               marked = marked_now;
               fresh_is = fresh_now;
               few = ltb-false max_versions (kept + fresh) (not_true (nat_lt max_versions (kept + fresh)) (VersionsFull d.name) h);
-              rows_are = count;
               few_rows = omega (arith, count, most);
               defs = ap (λ ts. map (λ (t : Stored). t.def) ts) changed ∙ defs_made scn cs tables n;
               moved = λ m. ap (λ ts. changed_at ts m) changed ∙ moved_made scn cs tables n m s e (settled_at scn tables n s settled e) placed.next;

@@ -1,14 +1,11 @@
 -- The second and the third step of a statement over tables without partitions.
 use Rattle.std.proofs.Common.{◌≡◌, ◌∙◌, ap, refl, ℕ, zero, suc, ◌+◌, false, not, ◌&&◌, List, [], ◌∷◌, length, map, Option, Some, None, ◌==◌, nat_lt}
-use Rattle.std.specs.List.{filter, list_any}
 use Rattle.std.specs.Prelude.{is_none, option_map}
-use Rattle.def_effect.specs.Block.{changed_row_refusal, child_refusal, enabled, final_refusal, is_orphaned, key_refusal, max_rows, max_versions, new_versions, parent_refusal}
+use Rattle.def_effect.specs.Block.{changed_row_refusal, child_refusal, enabled, final_refusal, key_refusal, max_rows, max_versions, new_versions, parent_refusal}
 use Rattle.wh_base.specs.Lists.{first_of, first_some, option_case, where_true}
-use Rattle.wh_base.specs.Tables.{Base, Table, TableChange, part_of_key, table_at, value_at, with_table}
+use Rattle.wh_base.specs.Tables.{Base, Table, TableChange, part_of_key, table_at, value_at}
 use Rattle.wh_base.specs.declared.replies.Refusal.{Refusal}
-use Rattle.wh_base.specs.declared.replies.Refusal.TheVariants.{ChildExists, NoPartition, RowMovement, TableFull, VersionsFull}
-use Rattle.wh_base.specs.declared.tables.ForeignDef.{ForeignDef}
-use Rattle.wh_base.specs.declared.tables.TableDef.{TableDef}
+use Rattle.wh_base.specs.declared.replies.Refusal.TheVariants.{NoPartition, RowMovement, TableFull, VersionsFull}
 use Rattle.wh_base.specs.declared.values.Value.{Value}
 use Rattle.wh_check.specs.Making.{AreWhole, change_refusal, changes_refusal}
 use Rattle.wh_check.specs.Rows.{row_refusal}
@@ -72,7 +69,7 @@ row_by t old vs key =
     first_some (
     row_refusal t.def vs
     ∷ where_true (option_case (option_map (value_at vs) key) false (λ v. is_none (part_of_key t v))) (NoPartition t.def.name)
-    ∷ where_true (option_case old false (λ ws. not (mark_by t key ws == mark_by t key vs))) (RowMovement t.def.name)
+    ∷ where_true (option_case old false (λ ws. not (mark_by t key ws == mark_by t key vs)) && not t.def.movement) (RowMovement t.def.name)
     ∷ [])
 
 row_plain : (t : Table) (old : Option (List Value)) (vs : List Value) → row_by t old vs None ≡ row_refusal t.def vs

@@ -1,5 +1,5 @@
 -- New rows of a table beyond its limits: the rows of the definitions come one after another all the same.
-use Rattle.std.proofs.Common.{◌≡◌, ◌∙◌, sym, ap, arith, refl, ℕ, ◌+◌, ◌<◌, ◌≤◌, max, Bool, true, cond, List, [], ◌∷◌, ◌++◌, map, Option, Some, None, nat_le, true≢false}
+use Rattle.std.proofs.Common.{◌≡◌, ◌∙◌, sym, ap, arith, refl, ℕ, ◌+◌, ◌<◌, ◌≤◌, max, true, cond, List, [], ◌∷◌, ◌++◌, map, Option, Some, None, true≢false}
 use Rattle.std.proofs.lemmas.Bool.{le-leb}
 use Rattle.std.proofs.lemmas.List.{map-append}
 use Rattle.std.specs.Prelude.{is_none}
@@ -13,12 +13,11 @@ use Rattle.wh_dml.specs.Placed.{AreNext, all_made, made, made_of}
 use Rattle.wh_dml.specs.declared.changes.PlacedRow.{PlacedRow}
 use Rattle.wh_dml.specs.declared.changes.RowChange.{RowChange}
 use Rattle.wh_segment.specs.Versions.{born_at}
-use Rattle.wh_segment.specs.declared.version.Version.{Version}
 use Rattle.wh_table.specs.Stored.{IsNamed, IsStored, Stored, given_at, inserted, insertion, last_scn, plain_row, rows_living, seen}
 use Rattle.wh_table.proofs.Counting.{each_from, given_append}
 use Rattle.wh_table.proofs.Living.{each_version}
 use Rattle.wh_table.proofs.Ordered.{Each, each_append, each_sort, each_weaker, put_last, sort, sort_append}
-use Rattle.wh_table.proofs.Seen.{IsRowOf, new_row, rows_inserted}
+use Rattle.wh_table.proofs.Seen.{new_row, rows_inserted}
 
 -- Each rowid was given, and all of them were by this SCN.
 pub record AreNamed (scn : ℕ) (s : Stored) : Type 0 where

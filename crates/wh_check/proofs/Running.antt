@@ -1,7 +1,7 @@
 -- A block over tables without partitions, statement by statement.
-use Rattle.std.proofs.Common.{◌≡◌, ◌∙◌, sym, ap, refl, subst, arith, ℕ, suc, ◌+◌, ◌*◌, ◌<◌, ◌≤◌, Bool, true, false, cond, ◌&&◌, ◌||◌, List, [], ◌∷◌, ◌++◌, length, drop, get_or, IsTrue, None, ◌==◌}
-use Rattle.std.proofs.lemmas.List.{drop_all, drop_more, length-map}
-use Rattle.std.specs.List.{All, list_all}
+use Rattle.std.proofs.Common.{◌≡◌, ◌∙◌, sym, ap, refl, subst, arith, ℕ, suc, ◌+◌, ◌*◌, ◌<◌, ◌≤◌, Bool, true, false, cond, ◌||◌, List, [], ◌∷◌, ◌++◌, length, drop, get_or, IsTrue, None, ◌==◌}
+use Rattle.std.proofs.lemmas.List.{drop_all, drop_more}
+use Rattle.std.specs.List.{All}
 use Rattle.std.specs.Prelude.{Err, Ok, Result}
 use Rattle.def_effect.specs.Block.{Progress, Stopped, effect, enabled, is_orphaned, max_rows, max_versions, run_statement, run_statements}
 use Rattle.wh_base.specs.Lists.{◌>>=◌}
@@ -42,15 +42,14 @@ same_defs P tables now e h = all_from (λ (s : Stored). P s.def) now (defs_each 
 
 -- ---- the loop
 
--- The block has come to the statement at this place: with these tables at their SCN, so many changes, so many live rows with versions of its own, and so many rows scanned.
+-- The block has come to the statement at this place: with these tables at their SCN, so many rows changed, so many live rows with versions of its own, and so many rows scanned.
 pub record IsUnderWay (scn kept : ℕ) (tables : List Stored) (statements : List Statement) (at now_scn : ℕ) (now : List Stored) (rows fresh read : ℕ) : Type 0 where
   pub changes : List TableChange
   pub next : now_scn ≡ scn + 1
-  pub rest : run_statements kept (at + 1) (done_at now_scn now changes read) (drop at statements) ≡ effect (base_seen scn tables) kept statements
+  pub rest : run_statements kept (at + 1) (done_at now_scn now changes read rows) (drop at statements) ≡ effect (base_seen scn tables) kept statements
   pub marked : AreMarked now_scn now changes
   pub fresh_is : fresh ≡ fresh_of now_scn now
   pub few : kept + fresh ≤ max_versions
-  pub rows_are : rows ≡ length changes
   pub few_rows : rows ≤ at * max_rows
   pub few_read : read ≤ at * max_rows
   pub defs : defs_of now ≡ defs_of tables
@@ -97,11 +96,10 @@ begins scn kept tables statements now_scn now settled next same few =
     subst (λ ts. IsUnderWay scn kept tables statements 0 now_scn ts 0 0 0) (sym same) (subst (λ m. IsUnderWay scn kept tables statements 0 m tables 0 0 0) (sym next) (record {
       changes = [];
       next = refl;
-      rest = (λ i. run_statements kept 1 (record { base = base_rests scn tables (each_from (λ s. last_scn s.versions ≤ scn) tables settled) i; changes = []; scanned = 0 }) statements);
+      rest = (λ i. run_statements kept 1 (record { base = base_rests scn tables (each_from (λ s. last_scn s.versions ≤ scn) tables settled) i; changes = []; scanned = 0; rows = 0 }) statements);
       marked = marks_none scn tables settled;
       fresh_is = sym (fresh_none scn tables settled);
       few = omega (arith, few);
-      rows_are = refl;
       few_rows = omega arith;
       few_read = omega arith;
       defs = refl;
@@ -121,10 +119,6 @@ is_in_append (x ∷ xs) ys m = ap (λ b. (x.table == m) || b) (is_in_append xs y
     grouped true q r = refl
     grouped false q r = refl
 
-length_append : {A : Type 0} (xs ys : List A) → length (xs ++ ys) ≡ length xs + length ys
-length_append [] ys = omega arith
-length_append (x ∷ xs) ys = omega (arith, length_append xs ys)
-
 run_on : (kept at : ℕ) (p : Progress) (st : Statement) (rest all : List Statement) (r : Result Progress Stopped) → all ≡ st ∷ rest → run_statement kept at p st ≡ r
     → run_statements kept at p all ≡ (r >>= (λ q. run_statements kept (suc at) q rest))
 run_on kept at p st rest all r cut is = ap (run_statements kept at p) cut ∙ ap (λ x. x >>= (λ q. run_statements kept (suc at) q rest)) is
@@ -134,7 +128,7 @@ module _ (scn kept : ℕ) (tables : List Stored) (statements : List Statement) (
   pub stops : (code : Refusal) (more : ℕ) → Fails (statement_step kept st) now_scn now code more → effect (base_seen scn tables) kept statements ≡ Err (record { at = at + 1; code = code; scanned = read + more })
   stops code more fails =
       sym w.rest
-      ∙ run_on kept (at + 1) (done_at now_scn now w.changes read) st (drop (at + 1) statements) (drop at statements) (Err (record { at = at + 1; code = code; scanned = read + more })) cut (fails.is (at + 1) w.changes read w.marked)
+      ∙ run_on kept (at + 1) (done_at now_scn now w.changes read rows) st (drop (at + 1) statements) (drop at statements) (Err (record { at = at + 1; code = code; scanned = read + more })) cut (fails.is (at + 1) w.changes read rows w.marked)
 
   pub goes_on : (new : List Stored) (new_scn more_rows new_fresh more : ℕ) → new_scn ≡ now_scn → Goes (statement_step kept st) now_scn kept now new more_rows new_fresh more → more ≤ max_rows
       → IsUnderWay scn kept tables statements (at + 1) new_scn new (rows + more_rows) new_fresh (read + more)
@@ -142,13 +136,12 @@ module _ (scn kept : ℕ) (tables : List Stored) (statements : List Statement) (
       subst (λ m. IsUnderWay scn kept tables statements (at + 1) m new (rows + more_rows) new_fresh (read + more)) (sym same) (record {
         changes = w.changes ++ (changes_made goes.table goes.changes);
         next = w.next;
-        rest = ap (λ m. run_statements kept m (done_at now_scn new (w.changes ++ (changes_made goes.table goes.changes)) (read + more)) (drop (at + 1) statements)) one_more
-            ∙ sym (run_on kept (at + 1) (done_at now_scn now w.changes read) st (drop (at + 1) statements) (drop at statements) (Ok (done_at now_scn new (w.changes ++ (changes_made goes.table goes.changes)) (read + more))) cut (goes.is (at + 1) w.changes read w.marked))
+        rest = ap (λ m. run_statements kept m (done_at now_scn new (w.changes ++ (changes_made goes.table goes.changes)) (read + more) (rows + more_rows)) (drop (at + 1) statements)) one_more
+            ∙ sym (run_on kept (at + 1) (done_at now_scn now w.changes read rows) st (drop (at + 1) statements) (drop at statements) (Ok (done_at now_scn new (w.changes ++ (changes_made goes.table goes.changes)) (read + more) (rows + more_rows))) cut (goes.is (at + 1) w.changes read rows w.marked))
             ∙ w.rest;
         marked = goes.marked w.changes w.marked;
         fresh_is = goes.fresh_is;
         few = goes.few;
-        rows_are = all_rows;
         few_rows = few_all;
         few_read = few_all_read;
         defs = goes.defs ∙ w.defs;
@@ -159,12 +152,6 @@ module _ (scn kept : ℕ) (tables : List Stored) (statements : List Statement) (
     where
       one_more : at + 1 + 1 ≡ suc (at + 1)
       one_more = omega arith
-
-      length_made : length (changes_made goes.table goes.changes) ≡ length goes.changes
-      length_made = length-map goes.changes _
-
-      all_rows : rows + more_rows ≡ length (w.changes ++ (changes_made goes.table goes.changes))
-      all_rows = let had = w.rows_are in let new_rows = goes.rows_are in let all = length_append w.changes (changes_made goes.table goes.changes) in let count = length_made in omega (arith, had, new_rows, all, count)
 
       few_all : rows + more_rows ≤ (at + 1) * max_rows
       few_all = let had = w.few_rows in let one = goes.few_rows in omega (arith, had, one)
@@ -182,8 +169,8 @@ module _ (scn kept : ℕ) (tables : List Stored) (statements : List Statement) (
 pub all_done : (scn kept : ℕ) (tables : List Stored) (statements : List Statement) (at now_scn : ℕ) (now : List Stored) (rows fresh read versions : ℕ) → IsUnderWay scn kept tables statements at now_scn now rows fresh read
     → All IsStored now → All (λ s. last_scn s.versions ≤ now_scn) now → length statements ≤ at → versions ≡ kept + fresh → Makes scn tables kept statements now_scn now rows versions read
 all_done scn kept tables statements at now_scn now rows fresh read versions w stored settled end sum = record {
-  progress = done_at now_scn now w.changes read;
-  is = sym w.rest ∙ ap (run_statements kept (at + 1) (done_at now_scn now w.changes read)) (drop_all at statements end);
+  progress = done_at now_scn now w.changes read rows;
+  is = sym w.rest ∙ ap (run_statements kept (at + 1) (done_at now_scn now w.changes read rows)) (drop_all at statements end);
   next = w.next;
   leaves = record {
     base = ap (λ m. base_seen m now) (sym w.next);
@@ -191,7 +178,7 @@ all_done scn kept tables statements at now_scn now rows fresh read versions w st
     moved = λ m. w.moved m ∙ ap (λ n. cond (is_in w.changes m) n (changed_at tables m)) w.next;
     noted = w.noted;
   };
-  rows_are = w.rows_are;
+  rows_are = refl;
   versions_are = sum ∙ ap (λ m. kept + m) (w.fresh_is ∙ sym (counted now_scn now w.changes stored settled w.marked));
   read_is = refl;
 }

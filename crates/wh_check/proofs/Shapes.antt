@@ -6,13 +6,13 @@ use Rattle.std.proofs.lemmas.Bool.Decides.{nat_tests}
 use Rattle.std.proofs.lemmas.List.{length-map}
 use Rattle.std.proofs.Math.Nat.{pow-le-pow_right}
 use Rattle.std.specs.List.{All, enumerate_from, list_all, position_or_len}
-use Rattle.def_effect.specs.Block.{Asks, changed_row_refusal, column_refusal, conditions_unknown, deleted_change, fits_kind, full_row, given_row_refusal, has_no_partition, insert_changes, inserted_change, load_row_refusal, loaded_row, moves_row, named_places, own_column, own_kinds_refusal, place_of, repeated_column, row_meets, set_names, set_or_old, set_refusal, set_value, statement_asks, unknown_column, updated_change, updated_row}
+use Rattle.def_effect.specs.Block.{Asks, changed_row_refusal, column_refusal, conditions_unknown, deleted_change, fits_kind, full_row, given_row_refusal, insert_changes, inserted_change, load_row_refusal, loaded_row, named_places, new_row_refusal, own_column, own_kinds_refusal, place_of, repeated_column, row_meets, set_names, set_or_old, set_refusal, set_value, statement_asks, unknown_column, updated_change, updated_row}
 use Rattle.wh_base.specs.Lists.{count_from, first_of, first_some, option_case, or_refuse, put_in_order, same_text, sort_onto, unless, where_true, ◌>>=◌}
 use Rattle.wh_base.specs.Tables.{Base, Row, Table, column_number, defs_of, rowid_cmp, table_at, table_number}
 use Rattle.wh_base.specs.Values.{given_value, is_null, is_small}
 use Rattle.wh_base.specs.declared.queries.RawCondition.{RawCondition}
 use Rattle.wh_base.specs.declared.replies.Refusal.{Refusal}
-use Rattle.wh_base.specs.declared.replies.Refusal.TheVariants.{NoPartition, NoSuchColumn, NoSuchObject, NullNotAllowed, RowMovement, ValueDoesNotFit}
+use Rattle.wh_base.specs.declared.replies.Refusal.TheVariants.{NoSuchColumn, NoSuchObject, NullNotAllowed, ValueDoesNotFit}
 use Rattle.wh_base.specs.declared.statements.ChangeStatement.TheVariants.{Delete, Insert, Load, Update}
 use Rattle.wh_base.specs.declared.statements.DeleteRows.{DeleteRows}
 use Rattle.wh_base.specs.declared.statements.InsertRows.{InsertRows}
@@ -28,7 +28,7 @@ use Rattle.wh_base.specs.declared.tables.Kind.TheVariants as kind
 use Rattle.wh_base.specs.declared.tables.RowAt.{RowAt}
 use Rattle.wh_base.specs.declared.tables.TableDef.{TableDef}
 use Rattle.wh_base.specs.declared.values.Value.{Value}
-use Rattle.wh_base.specs.declared.values.Value.TheVariants.{Null, Num, Ratio, Text}
+use Rattle.wh_base.specs.declared.values.Value.TheVariants.{Day, Null, Num, Ratio, Text}
 use Rattle.wh_dml.specs.Asked.{AsksFor}
 use Rattle.wh_check.specs.Making.{HaveShape, HaveShapeOnceFit, is_small_change}
 use Rattle.wh_dml.specs.Changes.{change_of}
@@ -56,8 +56,10 @@ small_value (kind.Number p) (Num n) h f =
     let most : 10 ^ p ≤ 10 ^ 15 = pow-le-pow_right (lit< tt) few in
     grind (arith, nat_tests)
 small_value (kind.Text m) (Num n) h f = cc
+small_value kind.Date (Num n) h f = cc
 small_value k (Text t) h f = refl
 small_value k (Ratio a) h f = refl
+small_value k (Day n) h f = refl
 small_value k Null h f = refl
 
 fits_column : (d : TableDef) (c : ColumnDef) (v : Value) → column_refusal d (c, v) ≡ None → fits_kind c.kind v ≡ true
@@ -205,8 +207,7 @@ length_full : (d : TableDef) (given : List (ℕ × Value)) → length (full_row 
 length_full d given = length-map (count_from 0 (length d.columns)) _ ∙ length_count 0 (length d.columns)
 
 -- the refusals of a row in turn
-row_parts : (t : Table) (old : Option (List Value)) (new : List Value) → first_some (first_of (column_refusal t.def) (zip t.def.columns new) ∷ where_true (has_no_partition t new) (NoPartition t.def.name) ∷ where_true (moves_row t old new) (RowMovement t.def.name) ∷ []) ≡ None
-    → first_of (column_refusal t.def) (zip t.def.columns new) ≡ None
+row_parts : (t : Table) (old : Option (List Value)) (new : List Value) → new_row_refusal t old new ≡ None → first_of (column_refusal t.def) (zip t.def.columns new) ≡ None
 row_parts t old new h = (first_none (first_of (column_refusal t.def) (zip t.def.columns new)) _ h).0
 
 -- no row has more values than the table has columns

@@ -1,5 +1,5 @@
 -- What a block makes of tables and their indexes, or where it stops.
-use Rattle.std.specs.Prelude.{◌≡◌, ◌+◌, Err, List, Ok, Result, Some, length, ℕ}
+use Rattle.std.specs.Prelude.{◌≡◌, ◌+◌, Err, List, Ok, Result, Some, ℕ}
 use Rattle.wh_base.specs.declared.replies.Refused.{Refused}
 use Rattle.wh_base.specs.declared.statements.Statement.{Statement}
 use Rattle.def_effect.specs.Block.{Progress, Stopped, effect, new_versions}
@@ -9,13 +9,13 @@ use Rattle.wh_image.specs.Laws.{Leaves}
 use Rattle.wh_keys.specs.Indexes.{Indexes}
 use Rattle.wh_table.specs.Stored.{Stored, base_seen}
 
--- The block over these tables goes through: it leaves those tables at the next SCN, made so many changes, leaves so many kept row versions and scanned so many rows.
+-- The block over these tables goes through: it leaves those tables at the next SCN, changed so many rows, leaves so many kept row versions and scanned so many rows.
 pub record Makes (scn : ℕ) (tables : List Stored) (kept : ℕ) (statements : List Statement) (after_scn : ℕ) (after : List Stored) (rows versions read : ℕ) : Type 0 where
   pub progress : Progress
   pub is : effect (base_seen scn tables) kept statements ≡ Ok progress
   pub next : after_scn ≡ scn + 1
   pub leaves : Leaves scn tables after progress
-  pub rows_are : rows ≡ length progress.changes
+  pub rows_are : rows ≡ progress.rows
   pub versions_are : versions ≡ kept + new_versions progress.base progress.changes
   pub read_is : read ≡ progress.scanned
 

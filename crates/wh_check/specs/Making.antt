@@ -82,24 +82,23 @@ pub record HaveShapeOnceFit (t : Table) (cs : List RowChange) : Type 0 where
 
 -- ---- what comes of a statement
 
--- what a block has done when it comes to a statement over these tables
-abbrev pub done_at : ℕ → List Stored → List TableChange → ℕ → Progress
-done_at scn tables changes scanned = record { base = base_seen scn tables; changes = changes; scanned = scanned }
+-- what a block has done when it comes to a statement over these tables: the changes that it made, how many rows it scanned, and how many it changed
+abbrev pub done_at : ℕ → List Stored → List TableChange → ℕ → ℕ → Progress
+done_at scn tables changes scanned rows = record { base = base_seen scn tables; changes = changes; scanned = scanned; rows = rows }
 
 -- what a statement asks of the definitions
 abbrev pub asks_of : ℕ → List RowChange → ℕ → Asks
 asks_of n cs scanned = record { table = n; changes = map change_of cs; scanned = scanned }
 
--- A step of a block goes through over these tables: it leaves those tables, and what the block has done has these changes more.
+-- A step of a block goes through over these tables: it leaves those tables, and what the block has done has these changes and so many changed rows more.
 pub record Goes (step : ℕ → Progress → Result Progress Stopped) (scn kept : ℕ) (before after : List Stored) (rows fresh read : ℕ) : Type 0 where
   pub table : ℕ
   pub changes : List RowChange
-  pub is : (at : ℕ) (done : List TableChange) (scanned : ℕ) → AreMarked scn before done
-      → step at (done_at scn before done scanned) ≡ Ok (done_at scn after (done ++ changes_made table changes) (scanned + read))
+  pub is : (at : ℕ) (done : List TableChange) (scanned changed : ℕ) → AreMarked scn before done
+      → step at (done_at scn before done scanned changed) ≡ Ok (done_at scn after (done ++ changes_made table changes) (scanned + read) (changed + rows))
   pub marked : (done : List TableChange) → AreMarked scn before done → AreMarked scn after (done ++ changes_made table changes)
   pub fresh_is : fresh ≡ fresh_of scn after
   pub few : kept + fresh ≤ effect.max_versions
-  pub rows_are : rows ≡ length changes
   pub few_rows : rows ≤ effect.max_rows
   pub defs : defs_of after ≡ defs_of before
   pub moved : (m : ℕ) → changed_at after m ≡ cond (is_in (changes_made table changes) m) scn (changed_at before m)
@@ -107,8 +106,8 @@ pub record Goes (step : ℕ → Progress → Result Progress Stopped) (scn kept 
 
 -- The step is refused over these tables.
 pub record Fails (step : ℕ → Progress → Result Progress Stopped) (scn : ℕ) (before : List Stored) (code : Refusal) (read : ℕ) : Type 0 where
-  pub is : (at : ℕ) (done : List TableChange) (scanned : ℕ) → AreMarked scn before done
-      → step at (done_at scn before done scanned) ≡ Err (record { at = at; code = code; scanned = scanned + read })
+  pub is : (at : ℕ) (done : List TableChange) (scanned changed : ℕ) → AreMarked scn before done
+      → step at (done_at scn before done scanned changed) ≡ Err (record { at = at; code = code; scanned = scanned + read })
 
 abbrev pub Ends : (ℕ → Progress → Result Progress Stopped) → ℕ → ℕ → List Stored → List Stored → Result Made Stop → Type 0
 Ends step scn kept before after (Ok made) = Goes step scn kept before after made.rows made.fresh made.read

@@ -17,7 +17,7 @@ use wh_table::Tables;
 /// How many statements a block has at the most: the number of one fits a `u32`.
 const MOST: usize = 0xffff_ffff;
 
-/// What a block leaves: the tables at the next SCN, how many changes it made, how many row versions are kept after it, and
+/// What a block leaves: the tables at the next SCN, how many rows it changed, how many row versions are kept after it, and
 /// how many rows it scanned.
 #[derive(Drop)]
 pub struct Checked<L> {

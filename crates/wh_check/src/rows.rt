@@ -2,11 +2,13 @@
 ghost use Rattle.std.specs.List.{list_all, list_any};
 ghost use Rattle.std.specs.Prelude.{◌≡◌, ◌≤◌, ◌^◌, IfOk, IsTrue, nat_abs, nat_lt};
 ghost use Rattle.def_effect.specs.Block.{byte_is_barred, column_refusal, fits_kind};
+ghost use Rattle.wh_base.specs.Days.{is_day};
 ghost use Rattle.wh_check.specs.Making.{change_refusal, changes_refusal};
 ghost use Rattle.wh_check.specs.Rows.{row_refusal, size_refusal, sizes_refusal};
 ghost use Rattle.wh_load.specs.Sized.{is_sized_def, kind_is_sized};
 
 use std::alloc::{AllocError, Global};
+use wh_base::day::Day;
 use wh_base::replies::Refusal;
 use wh_base::tables::{ColumnDef, Kind, TableDef};
 use wh_base::txt::Txt;
@@ -40,7 +42,15 @@ fn text_fits(text: &Txt, bytes: u32) -> bool
     text.len() <= bytes as usize && !has_barred_byte(text.as_slice())
 }
 
-/// Whether a column may hold a value, but for NOT NULL: a number within its digits, a text within its bytes, or NULL.
+/// Whether a column of days may hold a day. It may hold each of the calendar, and its number tells that it is one.
+fn day_fits(day: Day) -> bool
+    ensures { result ≡ is_day day }
+{
+    let _ = day.number();
+    true
+}
+
+/// Whether a column may hold a value, but for NOT NULL: a number within its digits, a text within its bytes, a day, or NULL.
 fn fits_kind(kind: Kind, value: &Value) -> bool
     requires small { IsTrue (kind_is_sized kind) }
     ensures { result ≡ fits_kind kind value.now }
@@ -49,6 +59,7 @@ fn fits_kind(kind: Kind, value: &Value) -> bool
         (_, Value::Null) => true,
         (Kind::Number(digits), Value::Num(number)) => number_fits(*number, digits),
         (Kind::Text(bytes), Value::Text(text)) => text_fits(text, bytes),
+        (Kind::Date, Value::Day(day)) => day_fits(*day),
         _ => false,
     }
 }

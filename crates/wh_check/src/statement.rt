@@ -30,8 +30,8 @@ const MOST_VERSIONS: u64 = 1_048_576;
 /// The most places of a table.
 const MOST_PLACES: u64 = 0x1_0000_0000;
 
-/// What a statement made: how many changes, of how many live rows there are versions that its block made by then, and how
-/// many rows it scanned.
+/// What a statement made: how many rows it changed, of how many live rows there are versions that its block made by then, and
+/// how many rows it scanned.
 #[derive(Drop)]
 pub(crate) struct Made {
     pub rows: u64,

@@ -13,9 +13,9 @@ use Rattle.wh_constraints.proofs.ParentsTold.{first_rest}
 use Rattle.wh_constraints.specs.Constraints.{TableFits, key_index, parent_lost}
 use Rattle.wh_dml.specs.Placed.{all_made}
 use Rattle.wh_dml.specs.declared.changes.RowChange.{RowChange}
-use Rattle.wh_key_law.proofs.Changed.{def_made}
-use Rattle.wh_key_law.specs.Fitting.{ValuesFit}
-use Rattle.wh_key_law.specs.Laws.{ForeignLaws}
+use Rattle.law_keys.proofs.Changed.{def_made}
+use Rattle.law_keys.specs.Fitting.{ValuesFit}
+use Rattle.law_keys.specs.Laws.{ForeignLaws}
 use Rattle.wh_keys.specs.Indexes.{Indexes}
 use Rattle.wh_keys.specs.Made.{foreign_at, indexes_at}
 use Rattle.wh_table.specs.Kept.{defs_of, with_change}

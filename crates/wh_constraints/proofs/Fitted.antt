@@ -12,7 +12,7 @@ use Rattle.wh_constraints.proofs.Indexed.{get_within, item_at, none_some, same_s
 use Rattle.wh_constraints.specs.Constraints.{AreIndexed, AreRight, RefersBack, TableFits, key_index, key_number}
 use Rattle.wh_dml.specs.Placed.{ArePlaced}
 use Rattle.wh_dml.specs.declared.changes.RowChange.{RowChange}
-use Rattle.wh_key_law.specs.Fitting.{KeyFits, ValuesFit}
+use Rattle.law_keys.specs.Fitting.{KeyFits, ValuesFit}
 use Rattle.wh_keys.specs.Indexes.{Indexes}
 use Rattle.wh_keys.specs.Made.{foreign_at, indexes_at, key_at, no_indexes}
 use Rattle.wh_table.proofs.Counting.{each_from, each_get}

@@ -9,8 +9,8 @@ use Rattle.def_effect.specs.Block.{key_refusal}
 use Rattle.wh_constraints.proofs.Indexed.{none_some, same_some}
 use Rattle.wh_dml.specs.Placed.{ArePlaced, all_made}
 use Rattle.wh_dml.specs.declared.changes.RowChange.{RowChange}
-use Rattle.wh_key_law.specs.Fitting.{KeyFits, ValuesFit}
-use Rattle.wh_key_law.specs.Laws.{ForeignLaws, KeyLaws}
+use Rattle.law_keys.specs.Fitting.{KeyFits, ValuesFit}
+use Rattle.law_keys.specs.Laws.{ForeignLaws, KeyLaws}
 use Rattle.wh_keyindex.specs.Children.{Values}
 use Rattle.wh_keys.specs.Indexes.{Places, keys_changed, values_changed}
 use Rattle.wh_keys.specs.Made.{all_keys_changed, all_values_changed, also_changed}

@@ -10,7 +10,7 @@ use Rattle.wh_constraints.proofs.Refusing.{Answered, answered}
 use Rattle.wh_constraints.specs.Constraints.{AreRight, Tells}
 use Rattle.wh_dml.specs.Placed.{ArePlaced}
 use Rattle.wh_dml.specs.declared.changes.RowChange.{RowChange}
-use Rattle.wh_key_law.specs.Laws.{ForeignLaws, KeyLaws}
+use Rattle.law_keys.specs.Laws.{ForeignLaws, KeyLaws}
 use Rattle.wh_keys.specs.Indexes.{Indexes}
 use Rattle.wh_keys.specs.Made.{indexes_at, keys_made}
 use Rattle.wh_table.proofs.Counting.{each_from}

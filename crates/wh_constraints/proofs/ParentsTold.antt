@@ -12,7 +12,7 @@ use Rattle.wh_constraints.proofs.Indexed.{changed_beside, def_there, get_within,
 use Rattle.wh_constraints.specs.Constraints.{key_index, parent_missing}
 use Rattle.wh_dml.specs.Placed.{all_made}
 use Rattle.wh_dml.specs.declared.changes.RowChange.{RowChange}
-use Rattle.wh_key_law.specs.Laws.{ForeignLaws}
+use Rattle.law_keys.specs.Laws.{ForeignLaws}
 use Rattle.wh_keys.specs.Indexes.{Indexes}
 use Rattle.wh_keys.specs.Made.{indexes_at}
 use Rattle.wh_table.specs.Kept.{defs_of, with_change}

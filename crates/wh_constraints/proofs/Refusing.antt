@@ -20,8 +20,8 @@ use Rattle.wh_constraints.proofs.ParentsTold.{first_parents, parent_told}
 use Rattle.wh_constraints.specs.Constraints.{AreRight, RefersBack, TableFits, Tells, child_left, children_refusal, key_index, keys_refusal, left_refusal, missing_refusal, parent_lost, parent_missing, parents_refusal, told_refusal}
 use Rattle.wh_dml.specs.Placed.{all_made}
 use Rattle.wh_dml.specs.declared.changes.RowChange.{RowChange}
-use Rattle.wh_key_law.proofs.Changed.{def_made}
-use Rattle.wh_key_law.specs.Laws.{ForeignLaws, KeyLaws}
+use Rattle.law_keys.proofs.Changed.{def_made}
+use Rattle.law_keys.specs.Laws.{ForeignLaws, KeyLaws}
 use Rattle.wh_keyindex.specs.Children.{Values}
 use Rattle.wh_keys.specs.Indexes.{Indexes, Places}
 use Rattle.wh_keys.specs.Made.{all_keys_changed, all_values_changed, foreign_at, foreign_made, indexes_at, keys_made, no_indexes, with_keys_of}

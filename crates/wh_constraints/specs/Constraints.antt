@@ -13,7 +13,7 @@ use Rattle.def_effect.specs.Block.{child_refusal, enabled, is_orphaned, key_refu
 use Rattle.wh_dml.specs.Placed.{all_made}
 use Rattle.wh_dml.specs.declared.changes.RowChange.{RowChange}
 use Rattle.wh_keyindex.specs.Children.{Values, places_with}
-use Rattle.wh_key_law.specs.Fitting.{KeyFits, ValuesFit}
+use Rattle.law_keys.specs.Fitting.{KeyFits, ValuesFit}
 use Rattle.wh_keys.specs.Indexes.{Indexes, Places, coming, going}
 use Rattle.wh_keys.specs.Made.{foreign_at, foreign_made, indexes_at, key_at}
 use Rattle.wh_table.specs.Kept.{defs_of, with_change}

@@ -10,6 +10,7 @@ ghost use Rattle.wh_keys.specs.Indexes.{entry_in};
 ghost use Rattle.wh_keys.specs.Made.{foreign_at, indexes_at, keys_made};
 ghost use Rattle.wh_table.specs.Kept.{with_change};
 
+use law_keys::{foreign_keys_are_told, keys_are_told};
 use std::alloc::{AllocError, Global};
 use wh_base::replies::Refusal;
 use wh_base::seq::Seq;
@@ -17,7 +18,6 @@ use wh_base::tables::{ForeignDef, TableDef};
 use wh_base::txt::Txt;
 use wh_base::values::Value;
 use wh_dml::{PlacedRow, RowChange};
-use wh_key_law::{foreign_keys_are_told, keys_are_told};
 use wh_keys::{Keys, entry_of};
 use wh_table::Tables;
 

@@ -6,12 +6,12 @@ use Rattle.wh_base.specs.declared.statements.Event.{Event}
 use Rattle.def_history.specs.Catalog.{empty_catalog}
 use Rattle.wh_constraints.specs.Constraints.{AreRight}
 use Rattle.wh_core.proofs.Indexing.{right_none}
-use Rattle.wh_core.specs.Kept.{IsCore, IsIndexed}
+use Rattle.wh_core.specs.Kept.{IsCore, IsIndexed, IsNamedBy}
 use Rattle.wh_image.specs.Standing.{StandsFor}
 use Rattle.wh_keys.specs.Coded.{Held}
 use Rattle.wh_table.specs.Stored.{Stored, seen}
 use Rattle.wh_view.specs.Kept.{AllKept, Kept}
-use Rattle.wh_view_law.specs.Read.{IsRead}
+use Rattle.law_views.specs.Read.{IsRead}
 
 no_items : {A B : Type 0} (f : A → B) (xs : List A) → [] ≡ map f xs → xs ≡ []
 no_items f [] e = refl
@@ -24,6 +24,7 @@ empty_core scn tables views room h =
       image = record { stands = h; read = All-nil (λ (e : Event). IsRead e.command) };
       built = refl;
       on_demand = subst (All (λ k. k.view.def.on_commit ≡ false)) (sym no_views) (All-nil (λ (k : Kept). k.view.def.on_commit ≡ false));
+      named = subst (All (IsNamedBy [])) (sym no_views) (All-nil (IsNamedBy []));
       counted = refl;
       enough = omega arith;
       fits = omega arith;

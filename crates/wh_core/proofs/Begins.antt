@@ -11,6 +11,7 @@ use Rattle.wh_base.specs.declared.statements.ShowStatement.{ShowStatement}
 use Rattle.wh_base.specs.declared.statements.ShowStatement.TheVariants.{ExplainView, ShowLog, ShowView, ValidateDimension}
 use Rattle.wh_base.specs.declared.statements.Statement.{Statement}
 use Rattle.wh_base.specs.declared.statements.Statement.TheVariants as about
+use Rattle.def_choice.specs.Choice.{class_is_built}
 use Rattle.def_history.specs.Catalog.{Catalog}
 use Rattle.def_journal.specs.Answers.{answer, star_at}
 use Rattle.def_journal.specs.Explaining.{explain_view, show_log, show_view, shown, the_dimension, the_log, the_view, validated}
@@ -20,10 +21,10 @@ use Rattle.def_journal.specs.Steps.{show_step}
 use Rattle.wh_core.proofs.Counts.{put_more}
 use Rattle.wh_core.proofs.Events.{IsAccepted, as_it_was, next_core, oldest_reached}
 use Rattle.wh_core.proofs.Known.{state_push, version_laws}
-use Rattle.wh_core.specs.Calls.{begins_of, takes_image}
+use Rattle.wh_core.specs.Calls.{bearer_of, begins_of, takes_image}
 use Rattle.wh_core.specs.Kept.{IsCore, begun_count}
 use Rattle.wh_table.specs.Stored.{Stored}
-use Rattle.wh_trace.specs.Reached.{begun_over, catalog_of, changes_versions}
+use Rattle.law_trace.specs.Reached.{begun_over, catalog_of, changes_versions}
 use Rattle.wh_view.specs.Kept.{AllKept}
 
 -- ---- what is answered leaves the state
@@ -58,10 +59,10 @@ stays s after is = record { catalog = ap (λ x. x.catalog) is; count = subst (λ
 
 begins : (s : State) (id : Id) (statement : Statement) → takes_image statement ≡ true → Begins s (state_after s (event_of id (commands.Other statement))) (begins_of statement)
 begins s id (about.Select a) takes =
-    let x = session_of s id.session in
-    stays s _ (given_stays s (answer (image_of s x) x a) (star_at (image_of s x) a.query))
-begins s id (about.Show what) takes = stays s _ (show_stays s (image_of s (session_of s id.session)) what)
-begins s id (about.Refresh r) takes = record { catalog = refl; count = put_more s (record (session_of s id.session) { begun = Some (begun_over s.catalog r.name) }) }
+    let x = session_of s (bearer_of id) in
+    stays s _ (given_stays s (answer class_is_built (image_of s x) x a) (star_at (image_of s x) a.query))
+begins s id (about.Show what) takes = stays s _ (show_stays s (image_of s (session_of s (bearer_of id))) what)
+begins s id (about.Refresh r) takes = record { catalog = refl; count = put_more s (record (session_of s (bearer_of id)) { begun = Some (begun_over s.catalog r.name) }) }
 begins s id statement takes = absurd (true≢false (sym takes))
 
 quiet : (statement : Statement) → takes_image statement ≡ true → changes_versions (commands.Other statement) ≡ false

@@ -1,8 +1,11 @@
 -- What is so of a trace whose commands are built, and of one event more.
 use Rattle.std.proofs.Common.{◌≡◌, ◌≤◌, ◌+◌, ◌∙◌, sym, ap, refl, subst, arith, ℕ, Bool, true, false, true≢false, List, [], ◌∷◌, ◌++◌, None, Option, Some, ◌&&◌, ◌||◌}
-use Rattle.std.proofs.lemmas.List.{length-append}
-use Rattle.std.proofs.lemmas.List.Elements.{All-append, All-cons, All-nil}
+use Rattle.std.proofs.lemmas.Bool.{or_left}
+use Rattle.std.proofs.lemmas.List.{append-nil, append_assoc, length-append}
+use Rattle.std.proofs.lemmas.List.Elements.{All-append, All-cons, All-nil, All-weaker}
+use Rattle.std.proofs.lemmas.List.Folds.{list_any-append}
 use Rattle.std.specs.List.{All, list_any}
+use Rattle.wh_base.specs.Lists.{same_text}
 use Rattle.wh_base.specs.declared.replies.Refusal.{Refusal}
 use Rattle.wh_base.specs.declared.replies.Reply.{Reply}
 use Rattle.wh_base.specs.declared.replies.Reply.TheVariants.{Refuse}
@@ -13,18 +16,20 @@ use Rattle.wh_base.specs.declared.statements.SessionStatement.TheVariants.{ReadO
 use Rattle.wh_base.specs.declared.statements.Entry.{Entry}
 use Rattle.wh_base.specs.declared.statements.Statement.TheVariants as about
 use Rattle.def_built.specs.Commands.{command_is_built, commands_are_built}
+use Rattle.def_built.specs.Form.{created_by}
 use Rattle.def_history.specs.Catalog.{Catalog}
 use Rattle.def_history.specs.History.{kept_versions}
 use Rattle.def_journal.specs.Journal.{commands_of, event_step, reply_to, state_of}
 use Rattle.def_journal.specs.State.{only_reads, refused, replied, session_of, with_catalog}
 use Rattle.wh_core.proofs.Known.{change_laws, image_laws, state_push, version_laws, view_laws}
-use Rattle.wh_core.specs.Kept.{IsCore, begun_count}
+use Rattle.wh_core.specs.Calls.{names_created}
+use Rattle.wh_core.specs.Kept.{IsCore, IsNamedBy, begun_count}
 use Rattle.wh_image.specs.Laws.{IsBounded}
 use Rattle.wh_image.specs.Standing.{StandsFor}
 use Rattle.wh_table.specs.Stored.{Stored}
-use Rattle.wh_trace.specs.Reached.{HasOpened, asks_below_zero, catalog_of, changes_versions}
-use Rattle.wh_view.specs.Kept.{AllKept}
-use Rattle.wh_view_law.specs.Read.{IsRead}
+use Rattle.law_trace.specs.Reached.{HasOpened, asks_below_zero, catalog_of, changes_versions}
+use Rattle.wh_view.specs.Kept.{AllKept, Kept}
+use Rattle.law_views.specs.Read.{IsRead}
 
 pub and_left : (a b : Bool) → (a && b) ≡ true → a ≡ true
 and_left true b e = refl
@@ -49,6 +54,22 @@ pub built_more : (trace : List Event) (e : Event) → commands_are_built (comman
 built_more [] e h one = both (command_is_built e.command) true one refl
 built_more (d ∷ trace) e h one =
     both (command_is_built d.command) _ (and_left (command_is_built d.command) _ h) (built_more trace e (and_right (command_is_built d.command) _ h) one)
+
+-- the names of the views that were created before an event, and by it
+abbrev pub names_after : List Event → Event → List (List ℕ)
+names_after trace e = names_created (commands_of trace) ++ created_by e.command
+
+names_push : (trace : List Event) (e : Event) → names_created (commands_of (trace ++ e ∷ [])) ≡ names_after trace e
+names_push [] e = append-nil (created_by e.command)
+names_push (d ∷ trace) e =
+    ap (λ names. created_by d.command ++ names) (names_push trace e)
+    ∙ sym (append_assoc (created_by d.command) (names_created (commands_of trace)) (created_by e.command))
+
+-- what is named by some is named by more
+pub named_more : (names more : List (List ℕ)) (ks : List Kept) → All (IsNamedBy names) ks → All (IsNamedBy (names ++ more)) ks
+named_more names more ks h =
+    All-weaker (IsNamedBy names) (IsNamedBy (names ++ more))
+    (λ k is. list_any-append (same_text k.view.def.name) names more ∙ or_left (list_any (same_text k.view.def.name) names) (list_any (same_text k.view.def.name) more) is) ks h
 
 -- each event of a trace whose commands are built has one
 pub built_each : (front : List Event) (e : Event) (rest : List Event) → commands_are_built (commands_of (front ++ e ∷ rest)) ≡ true → command_is_built e.command ≡ true
@@ -83,6 +104,7 @@ asks_none : (entry : Entry) (k : Command) → command_is_built k ≡ true → as
 asks_none entry (commands.Block b) built = refl
 asks_none entry (commands.Other (about.Purge p)) built = absurd (true≢false (sym built))
 asks_none entry (commands.Other statement) built = refl
+asks_none entry (commands.Submit statement) built = refl
 
 pub none_asks : (trace : List Event) → commands_are_built (commands_of trace) ≡ true → list_any asks_below_zero trace ≡ false
 none_asks [] h = refl
@@ -110,16 +132,17 @@ pub record After (trace : List Event) (e : Event) (scn : ℕ) (tables : List Sto
   pub core : (room : ℕ) → begun ≤ room → IsCore (trace ++ e ∷ []) scn tables views kept begun room
   pub reply : reply_to trace e ≡ Some answer
 
--- what the event leaves of the image, in the catalog d
-pub record Stands (d : Catalog) (before made scn : ℕ) (tables : List Stored) (views : AllKept) : Type 0 where
+-- what the event leaves of the image, in the catalog d: its views bear names that were created before, or by it
+pub record Stands (d : Catalog) (names : List (List ℕ)) (before made scn : ℕ) (tables : List Stored) (views : AllKept) : Type 0 where
   pub stands : StandsFor scn tables views d
   pub on_demand : All (λ k. k.view.def.on_commit ≡ false) views.views
+  pub named : All (IsNamedBy names) views.views
   pub scn_one : scn ≤ before + 1
   pub made_one : views.made ≤ made + 1
 
 module _ (trace : List Event) (e : Event) (scn : ℕ) (tables : List Stored) (views : AllKept) (kept begun room : ℕ) (core : IsCore trace scn tables views kept begun room) (accepted : IsAccepted e) where
   pub next_core : (d : Catalog) (scn2 : ℕ) (tables2 : List Stored) (views2 : AllKept) (kept2 begun2 room2 : ℕ) → catalog_of (trace ++ e ∷ []) ≡ d
-      → Stands d scn views.made scn2 tables2 views2 → kept2 ≡ kept_versions (catalog_of (trace ++ e ∷ []))
+      → Stands d (names_after trace e) scn views.made scn2 tables2 views2 → kept2 ≡ kept_versions (catalog_of (trace ++ e ∷ []))
       → begun_count (state_of (trace ++ e ∷ [])).sessions ≤ begun2 → begun2 ≤ room2
       → IsCore (trace ++ e ∷ []) scn2 tables2 views2 kept2 begun2 room2
   next_core d scn2 tables2 views2 kept2 begun2 room2 is after counted fewer fits =
@@ -130,6 +153,7 @@ module _ (trace : List Event) (e : Event) (scn : ℕ) (tables : List Stored) (vi
         };
         built = built_more trace e core.built accepted.built;
         on_demand = after.on_demand;
+        named = subst (λ names. All (IsNamedBy names) views2.views) (sym (names_push trace e)) after.named;
         counted = counted;
         enough = fewer;
         fits = fits;
@@ -139,7 +163,7 @@ module _ (trace : List Event) (e : Event) (scn : ℕ) (tables : List Stored) (vi
 
   -- an event that leaves the sessions as they are
   pub tells : (kept2 : ℕ) → kept2 ≡ kept_versions (catalog_of (trace ++ e ∷ [])) → (d : Catalog) (answer : Reply)
-      → event_step (state_of trace) e ≡ replied (with_catalog (state_of trace) d) answer → (scn2 : ℕ) (tables2 : List Stored) (views2 : AllKept) → Stands d scn views.made scn2 tables2 views2
+      → event_step (state_of trace) e ≡ replied (with_catalog (state_of trace) d) answer → (scn2 : ℕ) (tables2 : List Stored) (views2 : AllKept) → Stands d (names_after trace e) scn views.made scn2 tables2 views2
       → After trace e scn2 tables2 views2 kept2 begun answer
   tells kept2 counted d answer is scn2 tables2 views2 after =
       let left : state_of (trace ++ e ∷ []) ≡ with_catalog (state_of trace) d = state_push trace e ∙ ap (λ x. x.state) is in
@@ -151,13 +175,17 @@ module _ (trace : List Event) (e : Event) (scn : ℕ) (tables : List Stored) (vi
 
   -- the same of one that is no block
   pub replies : changes_versions e.command ≡ false → (d : Catalog) (answer : Reply) → event_step (state_of trace) e ≡ replied (with_catalog (state_of trace) d) answer
-      → (scn2 : ℕ) (tables2 : List Stored) (views2 : AllKept) → Stands d scn views.made scn2 tables2 views2
+      → (scn2 : ℕ) (tables2 : List Stored) (views2 : AllKept) → Stands d (names_after trace e) scn views.made scn2 tables2 views2
       → After trace e scn2 tables2 views2 kept begun answer
   replies quiet = tells kept (core.counted ∙ sym (version_laws.others trace e quiet (oldest_reached trace core.built)))
 
+  -- the views bear the names that they bore
+  pub still_named : All (IsNamedBy (names_after trace e)) views.views
+  still_named = named_more (names_created (commands_of trace)) (created_by e.command) views.views core.named
+
   -- the image is as it was
-  pub as_it_was : Stands (catalog_of trace) scn views.made scn tables views
-  as_it_was = record { stands = core.image.stands; on_demand = core.on_demand; scn_one = omega arith; made_one = omega arith }
+  pub as_it_was : Stands (catalog_of trace) (names_after trace e) scn views.made scn tables views
+  as_it_was = record { stands = core.image.stands; on_demand = core.on_demand; named = still_named; scn_one = omega arith; made_one = omega arith }
 
   -- a refusal changes nothing but the journal
   pub refuses : changes_versions e.command ≡ false → (code : Refusal) → event_step (state_of trace) e ≡ refused (state_of trace) 0 code

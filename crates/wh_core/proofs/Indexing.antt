@@ -20,16 +20,16 @@ use Rattle.def_effect.specs.Define.{foreign_def, foreign_to, new_foreign, new_pl
 use Rattle.wh_constraints.specs.Constraints.{AreIndexed, AreRight, RefersBack, TableFits}
 use Rattle.wh_core.proofs.Known.{lookups, row_laws}
 use Rattle.wh_image.specs.Standing.{StandsFor}
-use Rattle.wh_key_law.specs.Fitting.{KeyFits, ValuesFit}
+use Rattle.law_keys.specs.Fitting.{KeyFits, ValuesFit}
 use Rattle.wh_keys.specs.Coded.{Held}
 use Rattle.wh_keys.specs.Indexes.{Indexes}
 use Rattle.wh_keys.specs.Made.{empty_indexes}
 use Rattle.wh_table.proofs.Counting.{all_from, each_from}
 use Rattle.wh_table.specs.Kept.{defs_of}
 use Rattle.wh_table.specs.Stored.{Stored, base_seen, begun}
-use Rattle.wh_trace.proofs.Listed.{Each, each_two, each_weaker}
-use Rattle.wh_trace.specs.Reached.{catalog_of}
-use Rattle.wh_trace.specs.Rows.{IsDefined}
+use Rattle.law_trace.proofs.Listed.{Each, each_two, each_weaker}
+use Rattle.law_trace.specs.Reached.{catalog_of}
+use Rattle.law_trace.specs.Rows.{IsDefined}
 use Rattle.wh_view.specs.Kept.{AllKept}
 
 none_some : {A : Type 0} (x : A) → None ≡ Some x → ⊥

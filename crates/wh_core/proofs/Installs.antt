@@ -1,10 +1,11 @@
 -- What the install of a refresh makes of a core.
 use Rattle.std.proofs.Common.{◌≡◌, ◌≤◌, ◌-◌, ◌∙◌, sym, ap, refl, subst, arith, ℕ, Bool, true, false, true≢false, cond, not, List, [], ◌∷◌, ◌++◌, length, None, Option, Some, ◌==◌}
 use Rattle.std.proofs.lemmas.Bool.{eqb-true}
-use Rattle.std.specs.List.{find}
+use Rattle.std.proofs.lemmas.List.Elements.{All-head, All-tail}
+use Rattle.std.specs.List.{All, find}
 use Rattle.std.specs.Option.{ForSome, IsSomeAnd}
 use Rattle.std.specs.Prelude.{Ok, option_and_then, option_map, unwrap_or}
-use Rattle.wh_base.specs.Lists.{option_case, option_nat_same, where_true}
+use Rattle.wh_base.specs.Lists.{is_empty, option_case, option_nat_same, unless, where_true}
 use Rattle.wh_base.specs.declared.replies.Refusal.{Refusal}
 use Rattle.wh_base.specs.declared.replies.Refusal.TheVariants.{NoSuchObject, OnlyReading, Overtaken}
 use Rattle.wh_base.specs.declared.replies.Reply.{Reply}
@@ -19,21 +20,22 @@ use Rattle.wh_base.specs.declared.statements.Statement.TheVariants as about
 use Rattle.def_built.specs.Commands.{is_complete}
 use Rattle.def_history.specs.Catalog.{Catalog, View, base_at, base_now, view_numbered}
 use Rattle.def_journal.specs.Journal.{event_step, state_of}
-use Rattle.def_journal.specs.Refreshing.{Computed, asked_method, begun_view, change_view, computed, computed_by, ended, install_begun, install_computed, install_into, refreshed_to}
+use Rattle.def_journal.specs.Listing.{install_list}
+use Rattle.def_journal.specs.Refreshing.{Computed, asked_method, begun_view, change_view, computed, computed_by, computed_for, computed_over, ended, install_begun, install_computed, install_into, install_refresh, nested_refusal, new_point, point_beneath, refreshed_to}
 use Rattle.def_journal.specs.State.{State, Step, refused, replied, session_of, with_catalog}
 use Rattle.def_journal.specs.State as state
 use Rattle.def_meaning.specs.Meaning.{stored}
 use Rattle.def_output.specs.Reads.{read_of}
 use Rattle.wh_core.proofs.Counts.{end_less}
-use Rattle.wh_core.proofs.Events.{After, IsAccepted, Stands, as_it_was, next_core, not_reading, oldest_reached}
+use Rattle.wh_core.proofs.Events.{After, IsAccepted, Stands, and_left, and_right, as_it_was, names_after, next_core, not_reading, oldest_reached, still_named}
 use Rattle.wh_core.proofs.Known.{install_laws, lookups, state_push, version_laws, view_changes}
-use Rattle.wh_core.proofs.Viewed.{changed_on_demand}
-use Rattle.wh_core.specs.Calls.{Computes, HasBegun, install_of}
-use Rattle.wh_core.specs.Kept.{IsCore, begun_count}
+use Rattle.wh_core.proofs.Viewed.{IsOnDemand, all_changed}
+use Rattle.wh_core.specs.Calls.{Computes, HasBegun, bearer_of, install_of}
+use Rattle.wh_core.specs.Kept.{IsCore, IsNamedBy, begun_count}
 use Rattle.wh_core.specs.Put.{put, put_into, put_over, refusal_after}
 use Rattle.wh_core.specs.declared.refreshing.Begun.{Begun}
 use Rattle.wh_table.specs.Stored.{Stored}
-use Rattle.wh_trace.specs.Reached.{catalog_of}
+use Rattle.law_trace.specs.Reached.{catalog_of}
 use Rattle.wh_view.specs.Kept.{AllKept, AreNumbered, Kept, changed, is_numbered, refreshed}
 
 -- ---- what was begun
@@ -54,11 +56,21 @@ number_found n v (w ∷ vs) found = by (w.def.view == n) refl found (number_foun
     by true is same rest = let here : w ≡ v = cc in ap (λ (u : View). u.def.view) (sym here) ∙ eqb-true w.def.view n is
     by false is same rest = rest same
 
+-- what holds of all views holds of the one that is found
+pub found_each : (P : View → Type 0) (p : View → Bool) (vs : List View) (v : View) → All P vs → find p vs ≡ Some v → P v
+found_each P p [] v h found = absurd (cc)
+found_each P p (w ∷ vs) v h found = by (p w) found (found_each P p vs v (All-tail P w vs h))
+  where
+    by : (b : Bool) → cond b (Some w) (find p vs) ≡ Some v → (find p vs ≡ Some v → P v) → P v
+    by true same rest = let here : w ≡ v = cc in subst P here (All-head P w vs h)
+    by false same rest = rest same
+
 -- the view of a begin as its image has it, with what was computed over it
 record IsBegun (image : Catalog) (n : ℕ) (x : Computed) : Type 0 where
   then : View
   found : view_numbered image n ≡ Some then
   number : then.def.view ≡ n
+  over_tables : then.def.beneath ≡ None
   computed_so : x ≡ computed_by image then Complete
 
 is_begun : (image : Catalog) (n : ℕ) (x : Computed) → Computes image (view_numbered image n) (Some x) → IsBegun image n x
@@ -69,30 +81,38 @@ is_begun image n x h = by (view_numbered image n) refl h
 
     by : (o : Option View) → view_numbered image n ≡ o → Computes image o (Some x) → IsBegun image n x
     by None found none = absurd (cc)
-    by (Some v) found is = record { then = v; found = found; number = number_found n v image.views found; computed_so = computed_is v is }
+    by (Some v) found is = record { then = v; found = found; number = number_found n v image.views found; over_tables = is.0; computed_so = computed_is v is.1 }
 
 module _ (trace : List Event) (id : Id) (r : RefreshView) (scn : ℕ) (tables : List Stored) (views : AllKept) (kept begun room : ℕ) (core : IsCore trace scn tables views kept begun room)
     (accepted : IsAccepted (install_of id (commands.Other (about.Refresh r)))) (b : Begun) (named : b.name ≡ r.name) where
+  -- it is asked of one view, and completely
+  alone : is_empty r.more ≡ true
+  alone = and_right (is_complete r.method) (is_empty r.more) accepted.built
+
+  complete : r.method ≡ Some Complete
+  complete = complete_asked r.method (and_left (is_complete r.method) (is_empty r.more) accepted.built)
+
   -- the install as the session's step
-  install_step : (kept_begin : state.Begun) → (session_of (state_of trace) id.session).begun ≡ Some kept_begin
-      → event_step (state_of trace) (install_of id (commands.Other (about.Refresh r))) ≡ install_begun (ended (state_of trace) (session_of (state_of trace) id.session)) r kept_begin
+  install_step : (kept_begin : state.Begun) → (session_of (state_of trace) (bearer_of id)).begun ≡ Some kept_begin
+      → event_step (state_of trace) (install_of id (commands.Other (about.Refresh r))) ≡ install_begun (ended (state_of trace) (session_of (state_of trace) (bearer_of id))) r kept_begin
   install_step kept_begin is =
       let s = state_of trace in
-      let x = session_of s id.session in
-      ap (λ reads. cond reads (refused (ended s x) 0 OnlyReading) (option_case x.begun (refused s 0 (NoSuchObject r.name)) (install_begun (ended s x) r))) (not_reading trace id.session core.built)
+      let x = session_of s (bearer_of id) in
+      ap (λ one. cond one (install_refresh s x r) (install_list s x r)) alone
+      ∙ ap (λ reads. cond reads (refused (ended s x) 0 OnlyReading) (option_case x.begun (refused s 0 (NoSuchObject r.name)) (install_begun (ended s x) r))) (not_reading trace (bearer_of id) core.built)
       ∙ ap (λ o. option_case o (refused s 0 (NoSuchObject r.name)) (install_begun (ended s x) r)) is
 
   -- after the install the session has begun nothing, and the catalog is d
-  leaves : (kept_begin : state.Begun) → (session_of (state_of trace) id.session).begun ≡ Some kept_begin → (d : Catalog) (answer : Reply)
-      → install_begun (ended (state_of trace) (session_of (state_of trace) id.session)) r kept_begin ≡ replied (with_catalog (ended (state_of trace) (session_of (state_of trace) id.session)) d) answer
-      → (views2 : AllKept) → Stands d scn views.made scn tables views2
+  leaves : (kept_begin : state.Begun) → (session_of (state_of trace) (bearer_of id)).begun ≡ Some kept_begin → (d : Catalog) (answer : Reply)
+      → install_begun (ended (state_of trace) (session_of (state_of trace) (bearer_of id))) r kept_begin ≡ replied (with_catalog (ended (state_of trace) (session_of (state_of trace) (bearer_of id))) d) answer
+      → (views2 : AllKept) → Stands d (names_after trace (install_of id (commands.Other (about.Refresh r)))) scn views.made scn tables views2
       → After trace (install_of id (commands.Other (about.Refresh r))) scn tables views2 kept (begun - 1) answer
   leaves kept_begin has d answer is views2 after =
       let e : Event = install_of id (commands.Other (about.Refresh r)) in
       let s = state_of trace in
-      let step : event_step s e ≡ replied (with_catalog (ended s (session_of s id.session)) d) answer = install_step kept_begin has ∙ is in
-      let left : state_of (trace ++ e ∷ []) ≡ with_catalog (ended s (session_of s id.session)) d = state_push trace e ∙ ap (λ x. x.state) step in
-      let less = end_less s id.session kept_begin has in
+      let step : event_step s e ≡ replied (with_catalog (ended s (session_of s (bearer_of id))) d) answer = install_step kept_begin has ∙ is in
+      let left : state_of (trace ++ e ∷ []) ≡ with_catalog (ended s (session_of s (bearer_of id))) d = state_push trace e ∙ ap (λ x. x.state) step in
+      let less = end_less s (bearer_of id) kept_begin has in
       record {
         core = λ room2 fits. next_core trace e scn tables views kept begun room core accepted d scn tables views2 kept (begun - 1) room2 (ap (λ x. x.catalog) left) after
             (core.counted ∙ sym (version_laws.others trace e refl (oldest_reached trace core.built)))
@@ -108,27 +128,30 @@ module _ (trace : List Event) (id : Id) (r : RefreshView) (scn : ℕ) (tables : 
   Puts p = After trace (install_of id (commands.Other (about.Refresh r))) scn tables p.0 kept (begun - 1) p.1
 
   abbrev after_end : State
-  after_end = ended (state_of trace) (session_of (state_of trace) id.session)
+  after_end = ended (state_of trace) (session_of (state_of trace) (bearer_of id))
+
+  abbrev to_step : State → state.Begun → Computed → View → ℕ → Step
+  to_step s kb x now to =
+      replied (with_catalog s (change_view now.def.view (refreshed_to to) s.catalog))
+      (reply.Refresh (record { method = x.used; scn = to; read = x.read; holds = length x.rows }))
 
   abbrev into_step : State → state.Begun → Computed → View → Option Refusal → Step
   into_step s kb x now (Some code) = refused s x.read code
-  into_step s kb x now None =
-      replied (with_catalog s (change_view now.def.view (refreshed_to kb.image.scn) s.catalog))
-      (reply.Refresh (record { method = x.used; scn = kb.image.scn; read = x.read; holds = length x.rows }))
+  into_step s kb x now None = to_step s kb x now (new_point kb.image [] now)
 
-  refuses_install : (kb : state.Begun) → (session_of (state_of trace) id.session).begun ≡ Some kb → (read : ℕ) (code : Refusal) → install_begun after_end r kb ≡ refused after_end read code
+  refuses_install : (kb : state.Begun) → (session_of (state_of trace) (bearer_of id)).begun ≡ Some kb → (read : ℕ) (code : Refusal) → install_begun after_end r kb ≡ refused after_end read code
       → Puts (views, refusal_after read code)
   refuses_install kb has read code is = leaves kb has (catalog_of trace) (refusal_after read code) is views (as_it_was trace (install_of id (commands.Other (about.Refresh r))) scn tables views kept begun room core accepted)
 
-  module _ (kb : state.Begun) (has : (session_of (state_of trace) id.session).begun ≡ Some kb) where
+  module _ (kb : state.Begun) (has : (session_of (state_of trace) (bearer_of id)).begun ≡ Some kb) where
     none_found : Computes kb.image (begun_view kb) None → Puts (put views (kept_of kb) None)
     none_found h = by (begun_view kb) refl h
       where
         by : (o : Option View) → begun_view kb ≡ o → Computes kb.image o None → Puts (put views (kept_of kb) None)
         by None found none =
             refuses_install kb has 0 (NoSuchObject r.name)
-            (ap (λ o. option_case o (refused after_end 0 (NoSuchObject r.name)) (λ v. install_computed after_end r.name kb v (computed kb.image v (asked_method r v)))) found)
-        by (Some v) found is = absurd is
+            (ap (λ o. option_case o (refused after_end 0 (NoSuchObject r.name)) (λ v. install_computed after_end r.name kb v (computed_for kb.image [] r v))) found)
+        by (Some v) found is = absurd is.1
 
     module _ (x : Computed) (n : ℕ) (view : kb.view ≡ Some n) (then : IsBegun kb.image n x) where
       begun_view_is : begun_view kb ≡ Some then.then
@@ -136,10 +159,11 @@ module _ (trace : List Event) (id : Id) (r : RefreshView) (scn : ℕ) (tables : 
 
       to_over : install_begun after_end r kb ≡ option_case (option_map (λ k. k.view) (find (is_numbered n) views.views)) (refused after_end x.read (NoSuchObject r.name)) (install_into after_end r.name kb x)
       to_over =
-          let method : r.method ≡ Some Complete = complete_asked r.method accepted.built in
-          let gives : computed kb.image then.then (asked_method r then.then) ≡ Ok x =
-          ap (λ m. computed kb.image then.then (unwrap_or m then.then.def.method)) method ∙ ap (λ y. Ok y) (sym then.computed_so) in
-          ap (λ o. option_case o (refused after_end 0 (NoSuchObject r.name)) (λ v. install_computed after_end r.name kb v (computed kb.image v (asked_method r v)))) begun_view_is
+          let gives : computed_for kb.image [] r then.then ≡ Ok x =
+          ap (λ o. option_case o (computed kb.image then.then (asked_method r then.then)) (λ m. unless (nested_refusal kb.image [] r then.then m) (computed_over kb.image [] then.then))) then.over_tables
+          ∙ ap (λ m. computed kb.image then.then (unwrap_or m then.then.def.method)) complete
+          ∙ ap (λ y. Ok y) (sym then.computed_so) in
+          ap (λ o. option_case o (refused after_end 0 (NoSuchObject r.name)) (λ v. install_computed after_end r.name kb v (computed_for kb.image [] r v))) begun_view_is
           ∙ ap (install_computed after_end r.name kb then.then) gives
           ∙ ap (λ m. option_case (view_numbered (catalog_of trace) m) (refused after_end x.read (NoSuchObject r.name)) (install_into after_end r.name kb x)) then.number
           ∙ ap (λ o. option_case o (refused after_end x.read (NoSuchObject r.name)) (install_into after_end r.name kb x)) (lookups.numbered scn tables views (catalog_of trace) n core.image.stands)
@@ -147,13 +171,19 @@ module _ (trace : List Event) (id : Id) (r : RefreshView) (scn : ℕ) (tables : 
       -- the computed rows are what the view stores at the SCN of the image
       stores : ForSome (view_numbered (catalog_of trace) n) (λ v. x.rows ≡ stored v.def.query (base_at (catalog_of trace) kb.image.scn))
       stores = λ w found.
-          let now = install_laws.stands trace id.session n kb w has view found in
+          let now = install_laws.stands trace (bearer_of id) n kb w has view found in
           let same : then.then ≡ now.then = cc (begun_view_is, now.found) in
           ap (λ (y : Computed). y.rows) then.computed_so ∙ ap (λ (v : View). stored v.def.query (base_now kb.image)) same ∙ sym now.content
 
       number_of_found : (k : Kept) → find (is_numbered n) views.views ≡ Some k → k.view.def.view ≡ n
       number_of_found k found =
           number_found n k.view (catalog_of trace).views (lookups.numbered scn tables views (catalog_of trace) n core.image.stands ∙ ap (option_map (λ (l : Kept). l.view)) found)
+
+      -- so is the view as it is now
+      over_tables_now : (k : Kept) → find (is_numbered n) views.views ≡ Some k → k.view.def.beneath ≡ None
+      over_tables_now k found =
+          found_each (λ (v : View). v.def.beneath ≡ None) (λ v. v.def.view == n) (catalog_of trace).views k.view core.image.stands.over_tables
+          (lookups.numbered scn tables views (catalog_of trace) n core.image.stands ∙ ap (option_map (λ (l : Kept). l.view)) found)
 
       puts_found : AreNumbered views → (k : Kept) → find (is_numbered n) views.views ≡ Some k → (same : Bool) → option_nat_same kb.point k.view.point ≡ same
           → Puts (cond same (changed n (refreshed kb.image.scn x.rows) views, reply.Refresh (record { method = x.used; scn = kb.image.scn; read = x.read; holds = length x.rows }))
@@ -165,11 +195,13 @@ module _ (trace : List Event) (id : Id) (r : RefreshView) (scn : ℕ) (tables : 
           (to_over
           ∙ ap (λ (o : Option Kept). option_case (option_map (λ l. l.view) o) (refused after_end x.read (NoSuchObject r.name)) (install_into after_end r.name kb x)) found
           ∙ ap (λ b2. into_step after_end kb x k.view (where_true (not b2) (Overtaken r.name kb.point k.view.point))) same
+          ∙ ap (λ o. to_step after_end kb x k.view (option_case o kb.image.scn (λ m. unwrap_or (point_beneath kb.image [] m) 0))) (over_tables_now k found)
           ∙ ap (λ m. replied (with_catalog after_end (change_view m (refreshed_to kb.image.scn) c)) (reply.Refresh (record { method = x.used; scn = kb.image.scn; read = x.read; holds = length x.rows }))) (number_of_found k found))
           (changed n (refreshed kb.image.scn x.rows) views)
           (record {
             stands = view_changes.refreshes scn tables views c n kb.image.scn x.rows core.image.stands numbers stores;
-            on_demand = changed_on_demand (is_numbered n) (refreshed kb.image.scn x.rows) (λ l. refl) views.views core.on_demand;
+            on_demand = all_changed IsOnDemand (is_numbered n) (refreshed kb.image.scn x.rows) (λ l is. is) views.views core.on_demand;
+            named = all_changed (IsNamedBy (names_after trace (install_of id (commands.Other (about.Refresh r))))) (is_numbered n) (refreshed kb.image.scn x.rows) (λ l is. is) views.views (still_named trace (install_of id (commands.Other (about.Refresh r))) scn tables views kept begun room core accepted);
             scn_one = omega arith;
             made_one = omega arith;
           })
@@ -199,7 +231,7 @@ module _ (trace : List Event) (id : Id) (r : RefreshView) (scn : ℕ) (tables : 
             nothing e = cc
         by (Some n) view = puts_over x n view (is_begun kb.image n x (subst (λ o. Computes kb.image (option_and_then (view_numbered kb.image) o) (Some x)) view h)) numbers
 
-  pub installed : AreNumbered views → (rows : Option Computed) → HasBegun trace id.session b rows → Puts (put views b rows)
+  pub installed : AreNumbered views → (rows : Option Computed) → HasBegun trace (bearer_of id) b rows → Puts (put views b rows)
   installed numbers rows h =
       let same : kept_of h.begun ≡ b = (λ i. record { name = sym named i; view = sym h.view i; point = sym h.point i; scn = sym h.scn i }) in
       subst (λ k. Puts (put views k rows)) same (installed_at h.begun h.is numbers rows h.computes)

@@ -7,15 +7,15 @@ use Rattle.wh_image.proofs.Lookup as looking
 use Rattle.wh_image.proofs.Tabling as tabling
 use Rattle.wh_image.proofs.Viewing as viewing
 use Rattle.wh_image.specs.Laws.{Lookups, TableChanges, ViewChanges}
-use Rattle.wh_trace.proofs.Growing as growing
-use Rattle.wh_trace.proofs.Installing as installing
-use Rattle.wh_trace.proofs.Pointing as pointing
-use Rattle.wh_trace.proofs.Preceding as preceding
-use Rattle.wh_trace.proofs.Rowing as rowing
-use Rattle.wh_trace.proofs.Seated as seated
-use Rattle.wh_trace.proofs.Traces as traces
-use Rattle.wh_trace.proofs.Versions as versions
-use Rattle.wh_trace.specs.Laws.{ChangeLaws, ImageLaws, InstallLaws, RowLaws, SessionLaws, VersionLaws, ViewLaws}
+use Rattle.law_trace.proofs.Growing as growing
+use Rattle.law_trace.proofs.Installing as installing
+use Rattle.law_trace.proofs.Pointing as pointing
+use Rattle.law_trace.proofs.Preceding as preceding
+use Rattle.law_trace.proofs.Rowing as rowing
+use Rattle.law_trace.proofs.Seated as seated
+use Rattle.law_trace.proofs.Traces as traces
+use Rattle.law_trace.proofs.Versions as versions
+use Rattle.law_trace.specs.Laws.{ChangeLaws, ImageLaws, InstallLaws, RowLaws, SessionLaws, VersionLaws, ViewLaws}
 
 pub lookups : Lookups
 lookups = looking.lookups

@@ -21,9 +21,10 @@ use Rattle.def_journal.specs.Journal.{event_of, event_step, state_of}
 use Rattle.def_journal.specs.State.{done_or_refused, refused, replied, with_base, with_catalog}
 use Rattle.def_journal.specs.Statements.{create_table, unread}
 use Rattle.wh_constraints.specs.Constraints.{AreRight}
-use Rattle.wh_core.proofs.Events.{After, IsAccepted, bounded, not_reading, refuses, replies}
+use Rattle.wh_core.proofs.Events.{After, IsAccepted, and_left, bounded, not_reading, refuses, replies, still_named}
 use Rattle.wh_core.proofs.Indexing.{refer_before, right_more}
 use Rattle.wh_core.proofs.Known.{lookups, table_changes}
+use Rattle.wh_core.specs.Calls.{bearer_of}
 use Rattle.wh_core.specs.Kept.{IsCore}
 use Rattle.wh_define.specs.Made.{defined_or_refused}
 use Rattle.wh_define.specs.declared.define.Defined.{Defined}
@@ -32,8 +33,8 @@ use Rattle.wh_keys.specs.Indexes.{Indexes}
 use Rattle.wh_keys.specs.Made.{empty_indexes}
 use Rattle.wh_table.specs.Kept.{defs_of}
 use Rattle.wh_table.specs.Stored as stored
-use Rattle.wh_trace.proofs.Listed.{Each}
-use Rattle.wh_trace.specs.Reached.{catalog_of}
+use Rattle.law_trace.proofs.Listed.{Each}
+use Rattle.law_trace.specs.Reached.{catalog_of}
 use Rattle.wh_view.specs.Kept.{AllKept}
 
 is_nothing : {A : Type 0} (o : Option A) → is_none o ≡ true → o ≡ None
@@ -56,7 +57,7 @@ module _ (trace : List Event) (id : Id) (t : NewTable) (scn : ℕ) (tables : Lis
   step_is : event_step (state_of trace) (event_of id (commands.Other (about.Table (CreateTable t)))) ≡ done_or_refused (state_of trace) (create_table (catalog_of trace) t)
   step_is =
       ap (λ b. cond b (refused (state_of trace) 0 OnlyReading) (done_or_refused (state_of trace) (create_table (catalog_of trace) t)))
-      (not_reading trace id.session core.built)
+      (not_reading trace (bearer_of id) core.built)
 
   outcome_at : (r : Option Refusal) → define_refusal (names_taken (catalog_of trace)) (defs_now (catalog_of trace)) t ≡ r
       → create_table (catalog_of trace) t ≡ (unless r (base_now (catalog_of trace) ++ defined (defs_now (catalog_of trace)) t ∷ []) >>= (λ base. unread (with_base (catalog_of trace) base)))
@@ -78,8 +79,9 @@ module _ (trace : List Event) (id : Id) (t : NewTable) (scn : ℕ) (tables : Lis
       (scn + 1) (tables ++ stored.begun made.def ∷ []) views
       (record {
         stands = subst (λ d. StandsFor (scn + 1) (tables ++ stored.begun d ∷ []) views left) of_def
-            (table_changes.creates scn tables views c t core.image.stands (bounded trace) settled (is_nothing t.partitioning accepted.built));
+            (table_changes.creates scn tables views c t core.image.stands (bounded trace) settled (is_nothing t.partitioning (and_left (is_none t.partitioning) _ accepted.built)));
         on_demand = core.on_demand;
+        named = still_named trace (event_of id (commands.Other (about.Table (CreateTable t)))) scn tables views kept begun room core accepted;
         scn_one = omega arith;
         made_one = omega arith;
       })

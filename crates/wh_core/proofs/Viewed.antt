@@ -1,15 +1,18 @@
 -- What a statement on a view makes of a core.
-use Rattle.std.proofs.Common.{◌≡◌, ◌+◌, ◌∙◌, sym, ap, refl, subst, arith, suc, ℕ, Bool, true, false, true≢false, cond, not, List, [], ◌∷◌, length, map, None, Option, Some, nat_le, ◌==◌}
+use Rattle.std.proofs.Common.{◌≡◌, ◌+◌, ◌∙◌, sym, ap, refl, subst, arith, suc, ℕ, Bool, true, false, true≢false, cond, not, List, [], ◌∷◌, ◌++◌, length, map, None, Option, Some, nat_le, ◌==◌, ◌||◌}
+use Rattle.std.proofs.lemmas.Bool.{or_left, or_parts, or_right}
 use Rattle.std.proofs.lemmas.List.{length-map}
-use Rattle.std.proofs.lemmas.List.Elements.{All-append, All-cons, All-filter, All-map, All-nil, All-weaker}
-use Rattle.std.specs.List.{All, filter, find}
-use Rattle.std.specs.Prelude.{Err, Ok, Result, option_map}
-use Rattle.wh_base.specs.Lists.{change_where, first_some, option_case, or_refuse, unless, unless_then, where_true, ◌>>=◌}
+use Rattle.std.proofs.lemmas.List.Elements.{All-append, All-cons, All-filter, All-head, All-map, All-nil, All-tail, All-weaker}
+use Rattle.std.proofs.lemmas.List.Folds.{list_any-append}
+use Rattle.std.proofs.lemmas.Slice.Eq.{bytes_eq-Decides}
+use Rattle.std.specs.List.{All, filter, find, list_any}
+use Rattle.std.specs.Prelude.{Err, Ok, Result, option_and_then, option_map, option_to_list}
+use Rattle.wh_base.specs.Lists.{change_where, first_some, has_text, head, option_case, or_refuse, same_text, unless, unless_then, where_true, ◌>>=◌}
 use Rattle.wh_base.specs.Tables.{def_at}
 use Rattle.wh_base.specs.declared.queries.StarQuery.{StarQuery}
 use Rattle.wh_base.specs.declared.replies.Counted.TheVariants as counted
 use Rattle.wh_base.specs.declared.replies.Refusal.{Refusal}
-use Rattle.wh_base.specs.declared.replies.Refusal.TheVariants.{FastRefused, NameTaken, NoSuchObject, OnlyReading, TooManyObjects}
+use Rattle.wh_base.specs.declared.replies.Refusal.TheVariants.{FastRefused, NameTaken, NoSuchObject, OnlyReading, StillUsed, TooManyObjects}
 use Rattle.wh_base.specs.declared.replies.Reply.TheVariants as reply
 use Rattle.wh_base.specs.declared.statements.Command.TheVariants as commands
 use Rattle.wh_base.specs.declared.statements.Event.{Event}
@@ -28,35 +31,38 @@ use Rattle.def_history.specs.Catalog.{Catalog, View, base_now, defs_now, view_na
 use Rattle.def_history.specs.Staleness.{form_of_view}
 use Rattle.def_restrictions.specs.Restrictions.{restricted}
 use Rattle.def_journal.specs.Explaining.{the_view}
-use Rattle.def_journal.specs.Journal.{event_of, event_step, state_of}
+use Rattle.def_journal.specs.Journal.{commands_of, event_of, event_step, state_of}
+use Rattle.def_journal.specs.Nesting.{drop_refusal, is_fast, view_beneath}
 use Rattle.def_journal.specs.Refreshing.{change_view}
 use Rattle.def_journal.specs.State.{done_or_refused, refused, replied, with_catalog}
-use Rattle.def_journal.specs.Statements.{Outcome, build_reads, change_named_view, create_view, fast_form_refusal, is_fast, new_view, unread, view_def, with_view}
+use Rattle.def_journal.specs.Statements.{Outcome, build_reads, create_over_tables, create_over_view, fast_form_refusal, new_view, unread, view_def, with_view, without_view}
 use Rattle.def_journal.specs.Statements as statement
 use Rattle.def_journal.specs.Steps.{view_change}
 use Rattle.def_meaning.specs.Meaning.{stored}
 use Rattle.def_meaning.specs.Ranges.{base_reads}
+use Rattle.def_resolve.specs.Names.{lone_name}
 use Rattle.def_resolve.specs.Resolve.{resolve}
-use Rattle.wh_core.proofs.Events.{After, IsAccepted, Stands, and_left, and_right, not_reading, refuses, replies}
+use Rattle.wh_core.proofs.Events.{After, IsAccepted, Stands, and_left, and_right, names_after, not_reading, refuses, replies, still_named}
 use Rattle.wh_core.proofs.Known.{lookups, view_changes}
 use Rattle.wh_core.specs.Asked.{asked_def, asked_star, number_of, view_refusal}
-use Rattle.wh_core.specs.Kept.{IsCore}
+use Rattle.wh_core.specs.Calls.{IsOverTables, bearer_of, names_created}
+use Rattle.wh_core.specs.Kept.{IsCore, IsNamedBy}
 use Rattle.wh_image.specs.Standing.{StandsFor}
 use Rattle.wh_table.specs.Kept.{defs_of}
 use Rattle.wh_table.specs.Stored.{Stored}
-use Rattle.wh_trace.specs.Reached.{catalog_of}
+use Rattle.law_trace.specs.Reached.{catalog_of}
 use Rattle.wh_view.specs.Kept.{AllKept, Kept, added, changed, is_named, is_numbered, new_kept, removed, switched, unregistered}
 
 -- the view isn't refreshed at commits
 abbrev pub IsOnDemand : Kept → Type 0
 IsOnDemand k = k.view.def.on_commit ≡ false
 
-pub changed_on_demand : (p : Kept → Bool) (f : Kept → Kept) → ((k : Kept) → (f k).view.def.on_commit ≡ k.view.def.on_commit) → (ks : List Kept) → All IsOnDemand ks
-    → All IsOnDemand (change_where p f ks)
-changed_on_demand p f same ks h = All-map IsOnDemand (λ k. cond (p k) (f k) k) ks (All-weaker IsOnDemand (λ k. IsOnDemand (cond (p k) (f k) k)) (λ k is. by k (p k) is) ks h)
+-- what a change of one view keeps
+pub all_changed : (P : Kept → Type 0) (p : Kept → Bool) (f : Kept → Kept) → ((k : Kept) → P k → P (f k)) → (ks : List Kept) → All P ks → All P (change_where p f ks)
+all_changed P p f keeps ks h = All-map P (λ k. cond (p k) (f k) k) ks (All-weaker P (λ k. P (cond (p k) (f k) k)) (λ k is. by k (p k) is) ks h)
   where
-    by : (k : Kept) (b : Bool) → IsOnDemand k → IsOnDemand (cond b (f k) k)
-    by k true is = same k ∙ is
+    by : (k : Kept) (b : Bool) → P k → P (cond b (f k) k)
+    by k true is = keeps k is
     by k false is = is
 
 -- what is found of the view with this name by its number
@@ -75,10 +81,10 @@ module _ (trace : List Event) (id : Id) (v : ViewStatement) (scn : ℕ) (tables 
   view_step : event_step (state_of trace) (event_of id (commands.Other (about.View v))) ≡ done_or_refused (state_of trace) (view_change (catalog_of trace) v)
   view_step =
       ap (λ b. cond b (refused (state_of trace) 0 OnlyReading) (done_or_refused (state_of trace) (view_change (catalog_of trace) v)))
-      (not_reading trace id.session core.built)
+      (not_reading trace (bearer_of id) core.built)
 
   -- what the statement leaves
-  done : (d : Catalog) (read : ℕ) → view_change (catalog_of trace) v ≡ Ok (d, read) → d.scn ≡ scn → (views2 : AllKept) → Stands d scn views.made scn tables views2
+  done : (d : Catalog) (read : ℕ) → view_change (catalog_of trace) v ≡ Ok (d, read) → d.scn ≡ scn → (views2 : AllKept) → Stands d (names_after trace (event_of id (commands.Other (about.View v)))) scn views.made scn tables views2
       → After trace (event_of id (commands.Other (about.View v))) scn tables views2 kept begun (reply.Catalog (record { scn = scn; read = read }))
   done d read is same views2 after =
       replies trace (event_of id (commands.Other (about.View v))) scn tables views kept begun room core accepted refl d (reply.Catalog (record { scn = scn; read = read }))
@@ -107,6 +113,13 @@ module _ (trace : List Event) (id : Id) (v : ViewStatement) (scn : ℕ) (tables 
       is ∙ ap (λ o. or_refuse o (NoSuchObject name) >>= (λ w. unread (f w.def.view))) l.1 ∙ ap (λ m. Ok (f m, 0)) l.2
 
 module _ (trace : List Event) (id : Id) (scn : ℕ) (tables : List Stored) (views : AllKept) (kept begun room : ℕ) (core : IsCore trace scn tables views kept begun room) where
+  -- a change of a view leaves the names of all
+  renamed : (v : ViewStatement) → IsAccepted (event_of id (commands.Other (about.View v))) → (p : Kept → Bool) (f : Kept → Kept) → ((k : Kept) → (f k).view.def.name ≡ k.view.def.name)
+      → All (IsNamedBy (names_after trace (event_of id (commands.Other (about.View v))))) (change_where p f views.views)
+  renamed v accepted p f same =
+      let e : Event = event_of id (commands.Other (about.View v)) in
+      all_changed (IsNamedBy (names_after trace e)) p f (λ k is. ap (has_text (names_after trace e)) (same k) ∙ is) views.views (still_named trace e scn tables views kept begun room core accepted)
+
   -- ---- ENABLE and DISABLE QUERY REWRITE
 
   pub switches_none : (s : ViewSwitch) → IsAccepted (event_of id (commands.Other (about.View (AlterView s)))) → number_of s.name views ≡ None
@@ -123,7 +136,8 @@ module _ (trace : List Event) (id : Id) (scn : ℕ) (tables : List Stored) (view
       core.image.stands.scn_is (changed n (switched s.rewrite) views)
       (record {
         stands = view_changes.switches scn tables views c n s.rewrite core.image.stands;
-        on_demand = changed_on_demand (is_numbered n) (switched s.rewrite) (λ k. refl) views.views core.on_demand;
+        on_demand = all_changed IsOnDemand (is_numbered n) (switched s.rewrite) (λ k is. is) views.views core.on_demand;
+        named = renamed (AlterView s) accepted (is_numbered n) (switched s.rewrite) (λ k. refl);
         scn_one = omega arith;
         made_one = omega arith;
       })
@@ -134,19 +148,25 @@ module _ (trace : List Event) (id : Id) (scn : ℕ) (tables : List Stored) (view
       → After trace (event_of id (commands.Other (about.View (DropView name)))) scn tables views kept begun (reply.Refuse (record { code = NoSuchObject name; at = None; read = 0 }))
   drops_none name accepted none =
       let c : Catalog = catalog_of trace in
-      not_there trace id (DropView name) scn tables views kept begun room core accepted name (λ v. unread (record c { views = filter (λ w. not (w.def.view == v.def.view)) c.views })) refl none
+      not_there trace id (DropView name) scn tables views kept begun room core accepted name (λ v. unless (drop_refusal c v) (without_view c v, 0)) refl none
 
   pub drops : (name : List ℕ) → IsAccepted (event_of id (commands.Other (about.View (DropView name)))) → (n : ℕ) → number_of name views ≡ Some n
       → After trace (event_of id (commands.Other (about.View (DropView name)))) scn tables (removed n views) kept begun (reply.Catalog (record { scn = scn; read = 0 }))
   drops name accepted n found =
       let c : Catalog = catalog_of trace in
       let without : ℕ → Catalog = λ m. record c { views = filter (λ w. not (w.def.view == m)) c.views } in
+      let l = looked trace id (DropView name) scn tables views kept begun room core accepted name (Some n) found in
+      -- no view stands over it
+      let free = lookups.over scn tables views c l.0.def.view core.image.stands in
       done trace id (DropView name) scn tables views kept begun room core accepted (without n) 0
-      (there trace id (DropView name) scn tables views kept begun room core accepted name without refl n found)
+      (ap (λ o. or_refuse o (NoSuchObject name) >>= (λ v. unless (drop_refusal c v) (without_view c v, 0))) l.1
+      ∙ ap (λ over. unless (option_map (λ (w : View). StillUsed w.def.name) (head over)) (without l.0.def.view, 0)) free
+      ∙ ap (λ m. Ok (without m, 0)) l.2)
       core.image.stands.scn_is (removed n views)
       (record {
         stands = view_changes.drops scn tables views c n core.image.stands;
         on_demand = All-filter (λ k. not (is_numbered n k)) IsOnDemand views.views core.on_demand;
+        named = All-filter (λ k. not (is_numbered n k)) (IsNamedBy (names_after trace (event_of id (commands.Other (about.View (DropView name)))))) views.views (still_named trace (event_of id (commands.Other (about.View (DropView name)))) scn tables views kept begun room core accepted);
         scn_one = omega arith;
         made_one = omega arith;
       })
@@ -167,7 +187,8 @@ module _ (trace : List Event) (id : Id) (scn : ℕ) (tables : List Stored) (view
       core.image.stands.scn_is (changed n unregistered views)
       (record {
         stands = view_changes.unregisters scn tables views c n core.image.stands;
-        on_demand = changed_on_demand (is_numbered n) unregistered (λ k. refl) views.views core.on_demand;
+        on_demand = all_changed IsOnDemand (is_numbered n) unregistered (λ k is. is) views.views core.on_demand;
+        named = renamed (Unregister name) accepted (is_numbered n) unregistered (λ k. refl);
         scn_one = omega arith;
         made_one = omega arith;
       })
@@ -188,8 +209,35 @@ is_false : (b : Bool) → not b ≡ true → b ≡ false
 is_false true h = sym h
 is_false false h = refl
 
+-- no view bears a name that isn't among these
+none_named : (names : List (List ℕ)) (name : List ℕ) (ks : List Kept) → has_text names name ≡ false → All (IsNamedBy names) ks → find (is_named name) ks ≡ None
+none_named names name [] absent h = refl
+none_named names name (k ∷ ks) absent h = by (is_named name k) refl (none_named names name ks absent (All-tail (IsNamedBy names) k ks h))
+  where
+    by : (b : Bool) → is_named name k ≡ b → find (is_named name) ks ≡ None → cond b (Some k) (find (is_named name) ks) ≡ None
+    by true is rest =
+        let same : k.view.def.name ≡ name = (bytes_eq-Decides k.view.def.name name).0 is in
+        absurd (true≢false (sym (All-head (IsNamedBy names) k ks h) ∙ ap (has_text names) same ∙ absent))
+    by false is rest = rest
+
+-- a name is among those with it
+named_last : (names : List (List ℕ)) (name : List ℕ) → has_text (names ++ name ∷ []) name ≡ true
+named_last names name =
+    list_any-append (same_text name) names (name ∷ [])
+    ∙ or_right (list_any (same_text name) names) (same_text name name || false) (or_left (same_text name name) false ((bytes_eq-Decides name name).1 refl))
+
 module _ (trace : List Event) (id : Id) (s : NewView) (scn : ℕ) (tables : List Stored) (views : AllKept) (kept begun room : ℕ) (core : IsCore trace scn tables views kept begun room)
-    (accepted : IsAccepted (event_of id (commands.Other (about.View (CreateView s))))) where
+    (accepted : IsAccepted (event_of id (commands.Other (about.View (CreateView s))))) (apart : IsOverTables (commands_of trace) (commands.Other (about.View (CreateView s)))) where
+  -- it is over no view
+  over_tables : view_beneath (catalog_of trace) s.asked.query ≡ None
+  over_tables = by (lone_name s.asked.query) apart
+    where
+      by : (o : Option (List ℕ)) → list_any (has_text (names_created (commands_of trace))) (option_to_list o) ≡ false → option_and_then (view_named (catalog_of trace)) o ≡ None
+      by None h = refl
+      by (Some name) h =
+          lookups.named scn tables views (catalog_of trace) name core.image.stands
+          ∙ ap (option_map (λ (k : Kept). k.view)) (none_named (names_created (commands_of trace)) name views.views (or_parts (has_text (names_created (commands_of trace)) name) false h).0 core.named)
+
   -- the statement's outcome by the star form of its query
   of_star : StarQuery → Outcome
   of_star q = unless (fast_form_refusal (catalog_of trace) (new_view (catalog_of trace) s q)) (with_view (catalog_of trace) (new_view (catalog_of trace) s q), build_reads (catalog_of trace) (new_view (catalog_of trace) s q))
@@ -203,7 +251,8 @@ module _ (trace : List Event) (id : Id) (s : NewView) (scn : ℕ) (tables : List
       let c : Catalog = catalog_of trace in
       let many : length c.views ≡ length views.views = ap length core.image.stands.views_are ∙ length-map views.views (λ (k : Kept). k.view) in
       let found = lookups.taken scn tables views c s.name core.image.stands in
-      (λ i. unless_then (refusal_of (found i) (many i)) (resolve (lookups.definitions scn tables views c core.image.stands i) s.asked.query >>= of_star))
+      (λ i. unless_then (refusal_of (found i) (many i)) (option_case (over_tables i) (create_over_tables c s) (create_over_view c s)))
+      ∙ (λ i. unless_then (view_refusal tables views s) (resolve (lookups.definitions scn tables views c core.image.stands i) s.asked.query >>= of_star))
       ∙ then_bind (view_refusal tables views s) (resolve (defs_of tables) s.asked.query) of_star
 
   def_is : (q : StarQuery) → view_def (catalog_of trace) s q ≡ asked_def tables views s q
@@ -216,10 +265,11 @@ module _ (trace : List Event) (id : Id) (s : NewView) (scn : ℕ) (tables : List
         name = s.name;
         query = q;
         tables = map (def_at (defs i)) q.tables;
-        text = s.asked.text;
+        tokens = s.asked.tokens;
         method = s.method;
         on_commit = s.on_commit;
         rewrite = s.rewrite;
+        beneath = None;
       })
 
   star_done : (q : StarQuery) → of_star q ≡ Ok (with_view (catalog_of trace) (new_view (catalog_of trace) s q), build_reads (catalog_of trace) (new_view (catalog_of trace) s q))
@@ -245,6 +295,11 @@ module _ (trace : List Event) (id : Id) (s : NewView) (scn : ℕ) (tables : List
             (view_changes.creates scn tables views c s q entries core.image.stands stores);
         on_demand = All-append IsOnDemand views.views (new_kept (asked_def tables views s q) (where_true (not s.deferred) scn) entries ∷ []) core.on_demand
             (All-cons IsOnDemand (new_kept (asked_def tables views s q) (where_true (not s.deferred) scn) entries) [] on_demand (All-nil IsOnDemand));
+        named =
+            let names : List (List ℕ) = names_after trace (event_of id (commands.Other (about.View (CreateView s)))) in
+            let k : Kept = new_kept (asked_def tables views s q) (where_true (not s.deferred) scn) entries in
+            All-append (IsNamedBy names) views.views (k ∷ []) (still_named trace (event_of id (commands.Other (about.View (CreateView s)))) scn tables views kept begun room core accepted)
+            (All-cons (IsNamedBy names) k [] (named_last (names_created (commands_of trace)) s.name) (All-nil (IsNamedBy names)));
         scn_one = omega arith;
         made_one = omega arith;
       })

@@ -1,6 +1,6 @@
 -- What a statement on a view asks for, found in an image.
 use Rattle.std.specs.List.{find, list_any}
-use Rattle.std.specs.Prelude.{Bool, List, Option, Result, [], length, map, nat_le, option_map, ℕ, ◌||◌, ◌+◌, ◌∷◌}
+use Rattle.std.specs.Prelude.{Bool, List, None, Option, Result, [], length, map, nat_le, option_map, ℕ, ◌||◌, ◌+◌, ◌∷◌}
 use Rattle.wh_base.specs.Lists.{first_some, same_text, unless_then, where_true}
 use Rattle.wh_base.specs.Tables.{def_at}
 use Rattle.wh_base.specs.declared.queries.StarQuery.{StarQuery}
@@ -32,7 +32,7 @@ view_refusal tables views s =
 abbrev pub asked_star : List Stored → AllKept → NewView → Result StarQuery Refusal
 asked_star tables views s = unless_then (view_refusal tables views s) (resolve (defs_of tables) s.asked.query)
 
--- the definition of a new view with this query
+-- the definition of a new view over tables with this query
 abbrev pub asked_def : List Stored → AllKept → NewView → StarQuery → ViewDef
 asked_def tables views s q =
     record {
@@ -40,8 +40,9 @@ asked_def tables views s q =
       name = s.name;
       query = q;
       tables = map (def_at (defs_of tables)) q.tables;
-      text = s.asked.text;
+      tokens = s.asked.tokens;
       method = s.method;
       on_commit = s.on_commit;
       rewrite = s.rewrite;
+      beneath = None;
     }

@@ -3,9 +3,9 @@ ghost use Rattle.def_built.specs.Commands.{command_is_built, commands_are_built}
 ghost use Rattle.def_output.specs.Reads.{read_of};
 ghost use Rattle.def_journal.specs.Journal.{commands_of, event_of, reply_to, state_of};
 ghost use Rattle.wh_answer.specs.Answered.{most_reads};
-ghost use Rattle.wh_core.specs.Calls.{changes_catalog};
+ghost use Rattle.wh_core.specs.Calls.{IsOverTables, changes_catalog};
 ghost use Rattle.wh_core.specs.Put.{refusal_after};
-ghost use Rattle.wh_view_law.specs.Read.{IsRead};
+ghost use Rattle.law_views.specs.Read.{IsRead};
 
 use crate::notes::Noted;
 use std::alloc::{AllocError, Global};
@@ -86,7 +86,8 @@ impl<L> Core<L> {
     /// The step of a statement on a table or a view (the Data Warehousing Guide's chapters on materialized views; CREATE TABLE is the SQL
     /// language's): it enters the journal and takes effect, `DONE` with the SCN after it and, for a view that is built at once, the base
     /// rows read; or it is refused, and then nothing but the journal changes: MV-01 for a name that is taken, MV-16 for too many objects,
-    /// MV-02 for a view that isn't there, and what refuses the table's definition or the view's query. An error says that memory ran out;
+    /// MV-02 for a view that isn't there, and what refuses the table's definition or the view's query. A view is created over tables: the
+    /// caller has to know that no view of its FROM is one that the commands before it create. An error says that memory ran out;
     /// then the catalog is as it was, and some rows may have been read. At most `most_reads` rows are read in any case.
     pub fn ddl(
         &mut self,
@@ -99,6 +100,7 @@ impl<L> Core<L> {
         requires command { command.now ≡ Command.Other statement.now }
         requires changes { IsTrue (changes_catalog statement.now) }
         requires built { IsTrue (command_is_built command.now) }
+        requires over_tables { IsOverTables (commands_of self.old) command.now }
         requires read { IsRead command.now }
         requires room { reads.old ≤ 2 ^ 63 }
         ensures reply { IfOk result (λ r. reply_to self.old (event_of id command.now) ≡ Some r) }
@@ -110,7 +112,7 @@ impl<L> Core<L> {
     {
         match statement {
             Statement::Table(TableStatement::CreateTable(table)) => {
-                self.create_table(alloc, id, command, table)
+                self.create_table(alloc, id, command, table.get())
             }
             Statement::View(ViewStatement::CreateView(view)) => {
                 self.create_view(alloc, id, command, view, reads)

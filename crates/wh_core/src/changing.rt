@@ -8,6 +8,7 @@ ghost use Rattle.wh_table.specs.Stored.{begun};
 use crate::catalog::{Core, done, refusal};
 use crate::names::is_taken;
 use crate::notes::note_of;
+use law_views::laws::tables_have_sizes;
 use std::alloc::{AllocError, Global};
 use wh_base::reads::Reads;
 use wh_base::replies::{Committed, Reply};
@@ -18,7 +19,6 @@ use wh_check::{Checked, check_block};
 use wh_define::define_table;
 use wh_keys::Keys;
 use wh_table::Tables;
-use wh_view_law::laws::tables_have_sizes;
 
 impl<L> Core<L> {
     /// The step of a block: it enters the journal and takes effect all or nothing, `COMMITTED` with the SCN after it, how many changes it

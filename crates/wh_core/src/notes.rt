@@ -34,6 +34,7 @@ pub(crate) fn note_of(id: Id, command: &Command) -> Noted
             session: id.session,
             command: id.command,
             part: 1,
+            worker: id.worker,
         },
         command: Snapshot::of(command),
     }
@@ -48,6 +49,7 @@ pub(crate) fn install_note(id: Id, command: &Command) -> Noted
             session: id.session,
             command: id.command,
             part: 2,
+            worker: id.worker,
         },
         command: Snapshot::of(command),
     }

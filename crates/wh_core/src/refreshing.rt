@@ -4,8 +4,8 @@ ghost use Rattle.def_journal.specs.Journal.{event_of, reply_to};
 ghost use Rattle.def_output.specs.Reads.{read_of};
 ghost use Rattle.wh_answer.specs.Over.{IsImageOf};
 ghost use Rattle.wh_base.specs.Lists.{option_case};
-ghost use Rattle.wh_core.specs.Calls.{HasBegun, begins_of, install_of, takes_image};
-ghost use Rattle.wh_view_law.specs.Read.{IsRead};
+ghost use Rattle.wh_core.specs.Calls.{HasBegun, bearer_of, begins_of, install_of, takes_image};
+ghost use Rattle.law_views.specs.Read.{IsRead};
 
 use crate::catalog::Core;
 use crate::notes::{install_note, note_of};
@@ -69,7 +69,7 @@ impl<L> Core<L> {
         requires command { command.now ≡ Command.Other (Statement.Refresh asked.now) }
         requires built { IsTrue (command_is_built command.now) }
         requires name { begun.name ≡ asked.now.name }
-        requires begun { HasBegun self.old id.session begun computed }
+        requires begun { HasBegun self.old (bearer_of id) begun computed }
         ensures reply { reply_to self.old (install_of id command.now) ≡ Some result }
         ensures read { read_of result ≡ option_case computed 0 (λ x. x.read) }
         ensures trace { self.new ≡ self.old ++ install_of id command.now ∷ [] }

@@ -1,6 +1,6 @@
 ghost use Rattle.std.specs.Prelude.{◌≡◌, ◌≤◌, ◌<◌, ◌+◌, ◌-◌, ◌^◌, [], ◌∷◌, ◌++◌, Some, IfOk, OnOk, OnErr, IsTrue, cond, length, map, not};
 ghost use Rattle.def_built.specs.Commands.{command_is_built};
-ghost use Rattle.def_journal.specs.Journal.{event_of, reply_to};
+ghost use Rattle.def_journal.specs.Journal.{commands_of, event_of, reply_to};
 ghost use Rattle.def_meaning.specs.Meaning.{stored};
 ghost use Rattle.def_meaning.specs.Ranges.{base_reads};
 ghost use Rattle.def_output.specs.Reads.{read_of};
@@ -9,16 +9,18 @@ ghost use Rattle.wh_answer.specs.Answered.{most_reads};
 ghost use Rattle.wh_base.specs.Lists.{where_true};
 ghost use Rattle.wh_base.specs.Tables.{Base, def_at};
 ghost use Rattle.wh_core.specs.Asked.{asked_def, asked_star, view_refusal};
+ghost use Rattle.wh_core.specs.Calls.{IsOverTables};
 ghost use Rattle.wh_evaluate.specs.Shown.{CanEvaluate, Shows};
 ghost use Rattle.wh_table.specs.Kept.{defs_of, no_key, no_part, tables_at};
 ghost use Rattle.wh_view.specs.Kept.{new_kept};
-ghost use Rattle.wh_view_law.specs.Read.{IsRead};
+ghost use Rattle.law_views.specs.Read.{IsRead};
 
 use crate::catalog::{Core, done, refusal};
 use crate::names::{is_taken, number_of};
 use crate::notes::note_of;
 use std::alloc::{AllocError, Global};
 use wh_answer::laws::known;
+use wh_base::copied::Copied;
 use wh_base::queries::StarQuery;
 use wh_base::reads::Reads;
 use wh_base::replies::{Counted, Refusal, Reply};
@@ -44,7 +46,7 @@ pub(crate) struct Built {
 }
 
 impl<L> Core<L> {
-    /// The step of a CREATE MATERIALIZED VIEW: with BUILD IMMEDIATE it stores what its query means now.
+    /// The step of a CREATE MATERIALIZED VIEW over tables: with BUILD IMMEDIATE it stores what its query means now.
     pub(crate) fn create_view(
         &mut self,
         alloc: Global,
@@ -55,6 +57,7 @@ impl<L> Core<L> {
     ) -> Result<Reply, AllocError>
         requires command { command.now ≡ Command.Other (Statement.View (ViewStatement.CreateView view.now)) }
         requires built { IsTrue (command_is_built command.now) }
+        requires over_tables { IsOverTables (commands_of self.old) command.now }
         requires read { IsRead command.now }
         requires room { reads.old ≤ 2 ^ 63 }
         ensures reply { IfOk result (λ r. reply_to self.old (event_of id command.now) ≡ Some r) }
@@ -184,7 +187,7 @@ fn star_of<L>(
 ) -> Result<Result<StarQuery, Refusal>, AllocError>
     ensures { IfOk result (λ r. r ≡ resolve (defs_of image.now.tables.tables.items) view.now.asked.query) }
 {
-    match resolve(alloc, image.tables(), &view.asked.query) {
+    match resolve(alloc, image.tables(), &view.asked.get().query) {
         Ok(query) => Ok(Ok(query)),
         Err(QueryFault::Refused(code)) => Ok(Err(code)),
         Err(QueryFault::Memory) => Err(AllocError),
@@ -254,6 +257,7 @@ fn table_def(alloc: Global, defs: &[TableDef], number: u32) -> Result<TableDef, 
             primary: None,
             foreign: Seq::new(alloc),
             part_key: None,
+            movement: false,
         }),
     }
 }
@@ -289,10 +293,11 @@ fn asked_def<L>(
         name: view.name.copy(alloc)?,
         query,
         tables,
-        text: view.asked.text.copy(alloc)?,
+        tokens: view.asked.get().tokens.copied(alloc)?,
         method: view.method,
         on_commit: view.on_commit,
         rewrite: view.rewrite,
+        beneath: None,
     })
 }
 

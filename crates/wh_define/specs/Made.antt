@@ -48,6 +48,7 @@ table_from defs s columns keys foreign =
       primary = option_and_then (λ k. place_in columns k.column) (find (λ k. k.primary) keys);
       foreign = filter_map (foreign_from defs columns) foreign;
       part_key = option_and_then (λ p. place_in columns p.column) s.partitioning;
+      movement = s.movement;
     }
 
 -- ---- the first refusal, step by step

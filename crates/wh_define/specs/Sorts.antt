@@ -1,9 +1,10 @@
 -- What the code's kinds of columns stand for.
 use Rattle.def_resolve.specs.Kinds as kinds
 use Rattle.wh_define.specs.declared.sorts.Sort.{Sort}
-use Rattle.wh_define.specs.declared.sorts.Sort.TheVariants.{Any, Number, Text}
+use Rattle.wh_define.specs.declared.sorts.Sort.TheVariants.{Any, Day, Number, Text}
 
 abbrev pub meant : Sort → kinds.Sort
 meant Number = kinds.IsNumber
 meant Text = kinds.IsText
+meant Day = kinds.IsDay
 meant Any = kinds.IsAny

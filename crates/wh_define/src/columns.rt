@@ -110,6 +110,7 @@ fn size_holds(kind: &RawKind) -> bool
         RawKind::Digits(None) => true,
         RawKind::Digits(Some(digits)) => is_in_size(*digits, MOST_DIGITS),
         RawKind::Bytes(bytes) => is_in_size(*bytes, MOST_BYTES),
+        RawKind::Days => true,
     }
 }
 
@@ -122,6 +123,7 @@ pub fn kind_of(kind: &RawKind) -> Kind
         RawKind::Digits(None) => Kind::Number(MOST_DIGITS),
         RawKind::Digits(Some(digits)) => Kind::Number(*digits as u32),
         RawKind::Bytes(bytes) => Kind::Text(*bytes as u32),
+        RawKind::Days => Kind::Date,
     }
 }
 

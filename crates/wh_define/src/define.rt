@@ -200,6 +200,7 @@ fn table_from(
         primary: primary_place(columns, keys),
         foreign: foreign_defs(alloc, defs, columns, foreign)?,
         part_key: partition_place(columns, by),
+        movement: statement.movement,
     })
 }
 

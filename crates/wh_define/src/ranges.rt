@@ -3,11 +3,13 @@ ghost use Rattle.std.specs.Prelude.{◌≡◌, ◌^◌, IfOk, length, map, nat_a
 ghost use Rattle.def_effect.specs.Block.{byte_is_barred, fits_kind};
 ghost use Rattle.def_effect.specs.Define.{bound_fits, bound_refusal, is_above, is_above_last, new_bound, new_range_refusal, numbered_parts};
 ghost use Rattle.def_resolve.specs.Earlier.{first_in_turn};
+ghost use Rattle.wh_base.specs.Days.{is_day};
 ghost use Rattle.wh_base.specs.Lists.{same_text, unless};
 ghost use Rattle.wh_base.specs.Values.{literal_value};
 ghost use Rattle.wh_define.specs.Bounds.{bounds_of, misplaced, numbered};
 
 use std::alloc::{AllocError, Global};
+use wh_base::day::Day;
 use wh_base::replies::Refusal;
 use wh_base::seq::Seq;
 use wh_base::statements::NewRange;
@@ -31,6 +33,7 @@ fn literal_value(alloc: Global, literal: &Literal) -> Result<Value, AllocError>
                 Ok(Value::Text(text.copy(alloc)?))
             }
         }
+        Literal::Dated(day) => Ok(Value::Day(*day)),
     }
 }
 
@@ -67,6 +70,14 @@ fn has_barred_byte(text: &[u8]) -> bool
     text.iter().any(|byte| byte_is_barred(*byte))
 }
 
+/// Whether a day is one of the calendar, as every day is.
+fn is_day(day: Day) -> bool
+    ensures { result ≡ is_day day }
+{
+    let _number = day.number();
+    true
+}
+
 /// Whether a column of this kind may hold a value.
 fn fits_kind(kind: Kind, value: &Value) -> bool
     ensures { result ≡ fits_kind kind value.now }
@@ -76,6 +87,7 @@ fn fits_kind(kind: Kind, value: &Value) -> bool
         (Kind::Text(bytes), Value::Text(text)) => {
             text.len() <= bytes as usize && !has_barred_byte(text.as_slice())
         }
+        (Kind::Date, Value::Day(day)) => is_day(*day),
         _ => value.is_null(),
     }
 }

@@ -7,11 +7,12 @@ ghost use Rattle.wh_define.specs.Sorts.{meant};
 use wh_base::statements::RawKind;
 use wh_base::tables::{Kind, TableDef};
 
-/// What may be compared: numbers with numbers, texts with texts, and what is of no known kind with both.
+/// What may be compared: numbers with numbers, texts with texts, days with days, and what is of no known kind with all.
 #[derive(Clone, Copy, Debug)]
 pub enum Sort {
     Number,
     Text,
+    Day,
     Any,
 }
 
@@ -23,6 +24,7 @@ impl Sort {
         match kind {
             RawKind::Digits(_) => Sort::Number,
             RawKind::Bytes(_) => Sort::Text,
+            RawKind::Days => Sort::Day,
         }
     }
 
@@ -34,6 +36,7 @@ impl Sort {
             Some(column) => match column.kind {
                 Kind::Number(_) => Sort::Number,
                 Kind::Text(_) => Sort::Text,
+                Kind::Date => Sort::Day,
             },
             None => Sort::Any,
         }
@@ -45,6 +48,8 @@ impl Sort {
     {
         match (self, other) {
             (Sort::Number, Sort::Text) | (Sort::Text, Sort::Number) => false,
+            (Sort::Number, Sort::Day) | (Sort::Day, Sort::Number) => false,
+            (Sort::Text, Sort::Day) | (Sort::Day, Sort::Text) => false,
             _ => true,
         }
     }

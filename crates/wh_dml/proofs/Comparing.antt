@@ -1,5 +1,5 @@
 -- Literals that a column is compared with.
-use Rattle.std.proofs.Common.{◌≡◌, ◌∙◌, sym, ap, refl, List, [], ◌∷◌, Bool, true, false, map, not, Option, Some, None, ◌||◌}
+use Rattle.std.proofs.Common.{◌≡◌, ◌∙◌, sym, ap, refl, List, [], ◌∷◌, true, false, map, not, Option, Some, None, ◌||◌}
 use Rattle.std.specs.List.{list_any}
 use Rattle.def_effect.specs.Block.{sorts_refusal}
 use Rattle.def_resolve.specs.Kinds.{agrees, literal_sort, part_sort, printed_part}

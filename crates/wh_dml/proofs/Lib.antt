@@ -7,6 +7,7 @@ mod Unknown
 mod Twice
 mod Misfits
 mod Comparing
+mod Adding
 mod Setting
 mod Placing
 mod Scanned

@@ -1,5 +1,5 @@
 -- The rows of a LOAD are refused in the second step whether their numbers are capped or not, and where none is refused none was capped.
-use Rattle.std.proofs.Common.{◌≡◌, ◌∙◌, sym, ap, refl, true, ℕ, ◌+◌, List, [], ◌∷◌, map, Option, None, Some}
+use Rattle.std.proofs.Common.{◌≡◌, ◌∙◌, sym, ap, refl, true, not, ◌&&◌, ℕ, ◌+◌, List, [], ◌∷◌, map, Option, None, Some}
 use Rattle.std.specs.List.{enumerate_from}
 use Rattle.std.specs.Prelude.{zip}
 use Rattle.def_effect.specs.Block.{changed_row_refusal, column_refusal, has_no_partition, inserted_change, loaded_row, moves_row, new_row_refusal}
@@ -18,7 +18,7 @@ use Rattle.wh_dml.proofs.Sourcing.{first_none}
 
 -- a new row, where its columns say this
 abbrev new_refusal : Table → List Value → Option Refusal → Option Refusal
-new_refusal t vs o = first_some (o ∷ where_true (has_no_partition t vs) (NoPartition t.def.name) ∷ where_true (moves_row t None vs) (RowMovement t.def.name) ∷ [])
+new_refusal t vs o = first_some (o ∷ where_true (has_no_partition t vs) (NoPartition t.def.name) ∷ where_true (moves_row t None vs && not t.def.movement) (RowMovement t.def.name) ∷ [])
 
 abbrev columns_refusal : Table → List Value → Option Refusal
 columns_refusal t vs = first_of (column_refusal t.def) (zip t.def.columns vs)
@@ -36,7 +36,7 @@ row_refused t fields sized = by (columns_refusal t (loaded_row t.def fields)) re
 row_exact : (t : Table) (fields : List (List ℕ)) → is_sized_def t.def ≡ true → new_row_refusal t None (loaded_row t.def fields) ≡ None → loaded_row t.def fields ≡ capped_row t.def fields
 row_exact t fields sized none =
     sym (line_exact t.def t.def.columns fields sized (first_none (columns_refusal t (loaded_row t.def fields))
-    (where_true (has_no_partition t (loaded_row t.def fields)) (NoPartition t.def.name) ∷ where_true (moves_row t None (loaded_row t.def fields)) (RowMovement t.def.name) ∷ []) none).0)
+    (where_true (has_no_partition t (loaded_row t.def fields)) (NoPartition t.def.name) ∷ where_true (moves_row t None (loaded_row t.def fields) && not t.def.movement) (RowMovement t.def.name) ∷ []) none).0)
 
 -- ---- all rows
 

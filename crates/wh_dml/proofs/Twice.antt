@@ -1,5 +1,5 @@
 -- Columns that a SET list sets twice: one turn of a loop over its places.
-use Rattle.std.proofs.Common.{◌≡◌, ◌∙◌, sym, ap, subst, ℕ, ◌+◌, ◌<◌, List, [], ◌∷◌, length, map, drop, take, get_or, Bool, true, false, Some}
+use Rattle.std.proofs.Common.{◌≡◌, ◌∙◌, sym, ap, subst, ℕ, ◌+◌, ◌<◌, List, [], length, map, drop, take, get_or, Bool, true, false, Some}
 use Rattle.std.proofs.lemmas.List.{get_or-map, length-map, take-map}
 use Rattle.wh_base.specs.Lists.{has_text, repeated_after, same_text}
 use Rattle.wh_base.specs.declared.statements.SetColumn.{SetColumn}

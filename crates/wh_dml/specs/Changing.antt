@@ -1,6 +1,6 @@
 -- The first step of UPDATE and DELETE in one table: what refuses them, which rows they pick, and what a row becomes.
 use Rattle.std.specs.List.{enumerate_from, list_all}
-use Rattle.std.specs.Prelude.{Bool, List, Option, [], find, flat_map, map, ℕ, ◌&&◌, ◌==◌, ◌∷◌}
+use Rattle.std.specs.Prelude.{Bool, List, Option, [], flat_map, map, ℕ, ◌&&◌, ◌∷◌}
 use Rattle.wh_base.specs.Lists.{first_of, first_some}
 use Rattle.wh_base.specs.Tables.{value_at}
 use Rattle.wh_base.specs.Values.{added_value}
@@ -14,7 +14,6 @@ use Rattle.def_effect.specs.Block.{conditions_unknown, own_column, own_kinds_ref
 use Rattle.def_meaning.specs.Joined.{conditions_true, edge_true}
 use Rattle.def_resolve.specs.Resolve.{join_of_condition, resolved_condition}
 use Rattle.wh_dml.specs.declared.filter.Filter.{Filter}
-use Rattle.wh_dml.specs.declared.set_list.PlacedSet.{PlacedSet}
 use Rattle.wh_dml.specs.declared.set_list.SetList.{SetList}
 use Rattle.wh_dml.specs.declared.set_list.SetTo.{SetTo}
 use Rattle.wh_dml.specs.declared.set_list.SetTo.TheVariants.{Given, Moved}

@@ -168,6 +168,7 @@ pub(crate) fn given_value(alloc: Global, literal: &Option<Literal>) -> Result<Va
                 Ok(Value::Text(text.copy(alloc)?))
             }
         }
+        Some(Literal::Dated(day)) => Ok(Value::Day(*day)),
     }
 }
 
@@ -176,8 +177,12 @@ fn is_misfit(kind: Kind, literal: &Option<Literal>) -> bool
     ensures { result ≡ is_misfit kind literal.now }
 {
     match (kind, literal) {
-        (Kind::Number(_), Some(Literal::Quoted(text))) => !text.is_empty(),
-        (Kind::Text(_), Some(Literal::Number(_))) => true,
+        (Kind::Number(_), Some(Literal::Quoted(text)))
+        | (Kind::Date, Some(Literal::Quoted(text))) => !text.is_empty(),
+        (Kind::Number(_), Some(Literal::Dated(_)))
+        | (Kind::Text(_), Some(Literal::Number(_)))
+        | (Kind::Text(_), Some(Literal::Dated(_)))
+        | (Kind::Date, Some(Literal::Number(_))) => true,
         _ => false,
     }
 }

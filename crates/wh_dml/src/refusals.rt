@@ -1,6 +1,6 @@
 //! What refuses an UPDATE or a DELETE before any row is looked at: names, columns set twice, and kinds.
 ghost use Rattle.std.specs.Prelude.{◌≡◌, ◌∷◌, IfOk, Some, [], flat_map, map};
-ghost use Rattle.def_effect.specs.Block.{conditions_unknown, is_number_column, new_value_names, new_value_refusal, own_column, own_kinds_refusal, place_of, repeated_column, set_names, set_refusal, sorts_refusal, unknown_column};
+ghost use Rattle.def_effect.specs.Block.{are_one_kind, conditions_unknown, is_counted_column, new_value_names, new_value_refusal, own_column, own_kinds_refusal, place_of, repeated_column, set_names, set_refusal, sorts_refusal, unknown_column};
 ghost use Rattle.def_resolve.specs.Kinds.{literal_sort, part_sort, printed_part};
 ghost use Rattle.def_resolve.specs.Names.{column_named};
 ghost use Rattle.wh_base.specs.Lists.{first_of, has_text};
@@ -137,10 +137,21 @@ fn part_misfit(alloc: Global, def: &TableDef, part: ColPart) -> Result<Option<Re
     Ok(Some(Refusal::ValueDoesNotFit(def.name.copy(alloc)?, printed_part(alloc, def, part)?)))
 }
 
-fn is_number_column(def: &TableDef, place: u32) -> bool
-    ensures { result ≡ is_number_column def.now place }
+// Whether a column holds what a number may be added to: numbers, or days.
+fn is_counted_column(def: &TableDef, place: u32) -> bool
+    ensures { result ≡ is_counted_column def.now place }
 {
-    agrees(part_sort(def, ColPart::Col(place)), Sort::Number)
+    !agrees(part_sort(def, ColPart::Col(place)), Sort::Text)
+}
+
+// Whether two columns are of one kind.
+fn are_one_kind(def: &TableDef, first: u32, second: u32) -> bool
+    ensures { result ≡ are_one_kind def.now first second }
+{
+    agrees(
+        part_sort(def, ColPart::Col(first)),
+        part_sort(def, ColPart::Col(second)),
+    )
 }
 
 // That the new value of the column at a place is of another kind.
@@ -155,7 +166,8 @@ fn new_value_refusal(
     match value {
         NewValue::Given(literal) => value_misfits(alloc, def, place, literal),
         NewValue::Moved(from, _) => {
-            if is_number_column(def, place_of(def, from)) && is_number_column(def, place) {
+            let source = place_of(def, from);
+            if is_counted_column(def, source) && are_one_kind(def, source, place) {
                 return Ok(None);
             }
             part_misfit(alloc, def, ColPart::Col(place))

@@ -3,7 +3,7 @@ ghost use Rattle.std.specs.List.{enumerate_from, find};
 ghost use Rattle.std.specs.Option.{option_copied};
 ghost use Rattle.std.specs.Prelude.{◌≡◌, ◌==◌, IfOk, List, map};
 ghost use Rattle.def_effect.specs.Block.{set_or_old, updated_row};
-ghost use Rattle.wh_base.specs.Values.{added_value};
+ghost use Rattle.wh_base.specs.Values.{added_value, day_value};
 ghost use Rattle.wh_base.specs.declared.values.Value.{Value};
 ghost use Rattle.wh_dml.specs.Changing.{row_set, value_set};
 ghost use Rattle.wh_dml.specs.Setting.{placed_set, set_to, value_after};
@@ -11,6 +11,7 @@ ghost use Rattle.wh_dml.specs.Setting.{placed_set, set_to, value_after};
 use crate::asks::given_value;
 use crate::refusals::place_of;
 use std::alloc::{AllocError, Global};
+use wh_base::day::Day;
 use wh_base::seq::Seq;
 use wh_base::statements::{NewValue, SetColumn};
 use wh_base::tables::TableDef;
@@ -70,13 +71,32 @@ fn placed_sets(
     Seq::from_vec(all)
 }
 
-// A value with a number added, NULL where it is no number. An error says that the sum leaves 128 bits.
+// The day of a number. A number outside the calendar stays one, which no column of days holds.
+#[tactic(auto, using(crate::proofs::Adding::days))]
+fn day_value(number: i128) -> Value
+    ensures { result ≡ day_value number }
+{
+    let Ok(near) = i64::try_from(number) else {
+        return Value::Num(number);
+    };
+    match Day::new(near) {
+        Some(day) => Value::Day(day),
+        None => Value::Num(number),
+    }
+}
+
+// A number with another added, or the day so many days later; NULL for any other value. An error says that the sum leaves
+// 128 bits.
 fn added_value(value: &Value, number: i128) -> Result<Value, AllocError>
     ensures { IfOk result (λ v. v ≡ added_value value.now number) }
 {
     match value {
         Value::Num(old) => match old.checked_add(number) {
             Some(sum) => Ok(Value::Num(sum)),
+            None => Err(AllocError),
+        },
+        Value::Day(day) => match i128::from(day.number()).checked_add(number) {
+            Some(sum) => Ok(day_value(sum)),
             None => Err(AllocError),
         },
         _ => Ok(Value::Null),
@@ -154,8 +174,8 @@ impl SetList {
     }
 
     /// The values of a row with these old values after the SET list, in no more memory than they take. Each new value is made
-    /// of the old values alone; a NULL with a number added is NULL. An error says that memory ran out, or that a sum leaves
-    /// 128 bits, which the numbers that a script can write never make.
+    /// of the old values alone; a NULL with a number added is NULL, and a day that leaves the calendar is its number. An error
+    /// says that memory ran out, or that a sum leaves 128 bits, which the numbers that a script can write never make.
     pub fn apply(&self, alloc: Global, old: &Seq<Value>) -> Result<Seq<Value>, AllocError>
         ensures { IfOk result (λ vs. vs ≡ row_set self.now old.now) }
     {

@@ -33,7 +33,7 @@ use Rattle.wh_base.specs.declared.replies.Refusal.{Refusal}
 use Rattle.wh_base.specs.declared.replies.Refusal.TheVariants.{NotGrouped, NotStar}
 use Rattle.wh_base.specs.declared.tables.TableDef.{TableDef}
 use Rattle.wh_base.specs.declared.values.Literal.{Literal}
-use Rattle.wh_base.specs.declared.values.Literal.TheVariants.{Number, Quoted}
+use Rattle.wh_base.specs.declared.values.Literal.TheVariants.{Dated, Number, Quoted}
 use Rattle.def_meaning.specs.Accumulated.{item_aggs}
 use Rattle.def_resolve.specs.Kinds.{agg_refusal, condition_refusal, equal_refusal, is_too_long, misfit_literal, product_refusal, sum_refusal, test_refusal}
 use Rattle.def_resolve.specs.Names.{Source, column_named, names_refusal, source_of, sources_of, table_refusal}
@@ -115,6 +115,7 @@ no_literal_pair : (l : Literal) → not (is_pair (literal_value l)) ≡ true
 no_literal_pair (Number n) = refl
 no_literal_pair (Quoted []) = refl
 no_literal_pair (Quoted (b ∷ bs)) = refl
+no_literal_pair (Dated n) = refl
 
 no_literal_pairs : (ls : List Literal) → no_pairs (map literal_value ls) ≡ true
 no_literal_pairs [] = refl

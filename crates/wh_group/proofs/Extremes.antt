@@ -8,7 +8,7 @@ use Rattle.def_meaning.proofs.Merging.{either_lesser}
 use Rattle.wh_base.specs.Values.{value_cmp}
 use Rattle.wh_base.specs.ValueLaws.{value_total}
 use Rattle.wh_base.specs.declared.values.Value.{Value}
-use Rattle.wh_base.specs.declared.values.Value.TheVariants.{Null, Num, Text, Ratio}
+use Rattle.wh_base.specs.declared.values.Value.TheVariants.{Null}
 use Rattle.wh_group.specs.Tallies.{is_above}
 
 gt_turned : (o : Ordering) → is_gt (ordering_reverse o) ≡ is_lt o
@@ -39,21 +39,9 @@ greater_turned w v = ap (λ b. cond b v w) (ap is_lt (value_total.antisymm w v) 
 
 greater_is : (w v : Value) → either_value greater w v ≡ cond (is_above w v) v w
 greater_is Null Null = refl
-greater_is Null (Num n) = refl
-greater_is Null (Text t) = refl
-greater_is Null (Ratio a) = refl
-greater_is (Num m) Null = refl
-greater_is (Text s) Null = refl
-greater_is (Ratio b) Null = refl
-greater_is (Num m) (Num n) = greater_turned (Num m) (Num n)
-greater_is (Num m) (Text t) = greater_turned (Num m) (Text t)
-greater_is (Num m) (Ratio a) = greater_turned (Num m) (Ratio a)
-greater_is (Text s) (Num n) = greater_turned (Text s) (Num n)
-greater_is (Text s) (Text t) = greater_turned (Text s) (Text t)
-greater_is (Text s) (Ratio a) = greater_turned (Text s) (Ratio a)
-greater_is (Ratio b) (Num n) = greater_turned (Ratio b) (Num n)
-greater_is (Ratio b) (Text t) = greater_turned (Ratio b) (Text t)
-greater_is (Ratio b) (Ratio a) = greater_turned (Ratio b) (Ratio a)
+greater_is Null v = refl
+greater_is w Null = refl
+greater_is w v = greater_turned w v
 
 pub greater-comes : (w v : Value) → is_above w v ≡ true → either_value greater w v ≡ v
 greater-comes w v h = greater_is w v ∙ ap (λ b. cond b v w) h

@@ -13,7 +13,7 @@ use Rattle.wh_base.specs.declared.columns.Agg.TheVariants.{Avg, Count, CountAll,
 use Rattle.wh_base.specs.declared.columns.ColRef.{ColRef}
 use Rattle.wh_base.specs.declared.queries.Acc.{Acc}
 use Rattle.wh_base.specs.declared.values.Value.{Value}
-use Rattle.wh_base.specs.declared.values.Value.TheVariants.{Null, Num, Text, Ratio}
+use Rattle.wh_base.specs.declared.values.Value.TheVariants.{Null}
 use Rattle.def_meaning.specs.Accumulated.{acc_by, acc_of, merged_acc}
 use Rattle.def_meaning.specs.Meaning.{either_value, expr_value, greater, groups, groups_by, key_of, lesser, max_value, min_value, not_null, number_of, total_of}
 use Rattle.def_meaning.proofs.Merging.{acc_of-append}
@@ -27,9 +27,7 @@ use Rattle.wh_group.proofs.Keys.{Differ, Key, is_key, same, same_itself, distinc
 
 count_more : (n : ℕ) (v : Value) → n + length (filter not_null (v ∷ [])) ≡ cond (is_null v) n (n + 1)
 count_more n Null = omega arith
-count_more n (Num m) = refl
-count_more n (Text t) = refl
-count_more n (Ratio a) = refl
+count_more n v = refl
 
 abbrev sum_after : Summed → Value → Summed
 sum_after s v = record { count = s.count + length (filter not_null (v ∷ [])); sum = s.sum +ℤ total_of (filter not_null (v ∷ [])) }
@@ -42,21 +40,15 @@ one_summed s v = λ i. record { count = s.count + 1; sum = s.sum +ℤ (+ℤ_idr 
 
 sum_more : (s : Summed) (v : Value) → sum_after s v ≡ sum_with v s
 sum_more s Null = let count : s.count + 0 ≡ s.count = omega arith in λ i. record { count = count i; sum = +ℤ_idr s.sum i }
-sum_more s (Num m) = one_summed s (Num m)
-sum_more s (Text t) = one_summed s (Text t)
-sum_more s (Ratio a) = one_summed s (Ratio a)
+sum_more s v = one_summed s v
 
 least_more : (w v : Value) → either_value lesser w (min_value (filter not_null (v ∷ []))) ≡ either_value lesser w v
 least_more w Null = refl
-least_more w (Num m) = refl
-least_more w (Text t) = refl
-least_more w (Ratio a) = refl
+least_more w v = refl
 
 greatest_more : (w v : Value) → either_value greater w (max_value (filter not_null (v ∷ []))) ≡ either_value greater w v
 greatest_more w Null = refl
-greatest_more w (Num m) = refl
-greatest_more w (Text t) = refl
-greatest_more w (Ratio a) = refl
+greatest_more w v = refl
 
 module _ {T : Type 0} (value : T → ColRef → Value) where
   one_more : (t : T) (a : Agg) (x : Acc) → tally_by a (merged_acc x (acc_of value (t ∷ []) a)) ≡ tally_with (counted (value t) a) (tally_by a x)

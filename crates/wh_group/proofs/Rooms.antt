@@ -17,7 +17,7 @@ use Rattle.wh_base.specs.declared.columns.Expr.{Expr}
 use Rattle.wh_base.specs.declared.columns.Expr.TheVariants as expr
 use Rattle.wh_base.specs.declared.tables.RowAt.{RowAt}
 use Rattle.wh_base.specs.declared.values.Value.{Value}
-use Rattle.wh_base.specs.declared.values.Value.TheVariants.{Null, Num, Text, Ratio}
+use Rattle.wh_base.specs.declared.values.Value.TheVariants.{Num}
 use Rattle.def_meaning.specs.Accumulated.{acc_of}
 use Rattle.def_meaning.specs.Joined.{column_value}
 use Rattle.def_meaning.specs.Meaning.{expr_value, groups, key_of, not_null, number_of, total_of, values_of}
@@ -31,9 +31,7 @@ use Rattle.wh_group.proofs.Keys.{Key}
 
 number_small : (v : Value) → IsTrue (is_small v) → nat_abs (number_of v) < 10 ^ 15
 number_small (Num n) h = grind (arith, nat_tests)
-number_small (Text t) h = omega arith
-number_small (Ratio a) h = omega arith
-number_small Null h = omega arith
+number_small v h = omega arith
 
 small_bounded : (v : Value) → IsTrue (is_small v) → IsBounded v
 small_bounded v h = omega (arith, number_small v h)
@@ -43,12 +41,7 @@ product_bounded (Num m) (Num n) h k =
     let below : nat_abs m ≤ 10 ^ 15 = omega (arith, number_small (Num m) h) in
     let below_too : nat_abs n ≤ 10 ^ 15 = omega (arith, number_small (Num n) k) in
     omega (arith, unsigned_abs-mul m n, mul-le-mul below below_too)
-product_bounded (Num m) Null h k = omega arith
-product_bounded (Num m) (Text t) h k = omega arith
-product_bounded (Num m) (Ratio a) h k = omega arith
-product_bounded Null w h k = omega arith
-product_bounded (Text t) w h k = omega arith
-product_bounded (Ratio a) w h k = omega arith
+product_bounded v w h k = omega arith
 
 expr_bounded : (tables : List ℕ) (tuple : List RowAt) (e : Expr) → IsSmallTuple tuple → IsTrue (is_small_expr e) → IsBounded (expr_value (column_value tables tuple) e)
 expr_bounded tables tuple (expr.Col c) h k = small_bounded (column_value tables tuple c) (small_column tables tuple c h)

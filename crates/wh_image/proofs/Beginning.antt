@@ -21,6 +21,7 @@ empty_stands =
       noted = λ k d h. absurd (never k h);
       whole = λ k d h. absurd (never k h);
       whole_then = λ k d h. absurd (never k h);
+      over_tables = λ k d h. absurd (never k h);
       touches = refl;
       logs = refl;
       dimensions = refl;

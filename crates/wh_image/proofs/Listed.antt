@@ -79,13 +79,13 @@ find_map f p (x ∷ xs) = by (p (f x)) (find_map f p xs)
     by false h = h
 
 -- each has a change there that is the one here
-pub map_changed : {A B : Type 0} (f : A → B) (p : B → Bool) (change : A → A) (there : B → B) → ((x : A) → f (change x) ≡ there (f x)) → (xs : List A)
-    → map f (change_where (λ x. p (f x)) change xs) ≡ change_where p there (map f xs)
-map_changed f p change there same [] = refl
-map_changed f p change there same (x ∷ xs) = (λ i. by (p (f x)) i ∷ map_changed f p change there same xs i)
+pub map_changed : {A B : Type 0} (P : A → Type 0) (f : A → B) (p : B → Bool) (change : A → A) (there : B → B) → ((x : A) → P x → f (change x) ≡ there (f x)) → (xs : List A)
+    → Each P xs → map f (change_where (λ x. p (f x)) change xs) ≡ change_where p there (map f xs)
+map_changed P f p change there same [] h = refl
+map_changed P f p change there same (x ∷ xs) h = (λ i. by (p (f x)) i ∷ map_changed P f p change there same xs h.1 i)
   where
     by : (b : Bool) → f (cond b (change x) x) ≡ cond b (there (f x)) (f x)
-    by true = same x
+    by true = same x h.0
     by false = refl
 
 pub map_filter : {A B : Type 0} (f : A → B) (p : B → Bool) (xs : List A) → map f (filter (λ x. p (f x)) xs) ≡ filter p (map f xs)

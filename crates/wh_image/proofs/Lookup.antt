@@ -1,13 +1,13 @@
 -- What is looked up in the catalog is found in the image.
-use Rattle.std.proofs.Common.{◌≡◌, ◌∙◌, ap, ℕ, List, ◌++◌, map, ◌==◌}
+use Rattle.std.proofs.Common.{◌≡◌, ◌∙◌, ap, ℕ, false, List, [], ◌++◌, map, None, ◌==◌}
 use Rattle.std.proofs.lemmas.List.{append-nil}
 use Rattle.std.proofs.lemmas.List.Folds.{list_any-append}
 use Rattle.std.specs.List.{find, list_any}
 use Rattle.std.specs.Prelude.{option_map, ◌||◌}
-use Rattle.wh_base.specs.Lists.{has_text, same_text}
+use Rattle.wh_base.specs.Lists.{has_text, option_nat_is, same_text}
 use Rattle.wh_base.specs.declared.tables.TableDef.{TableDef}
-use Rattle.def_history.specs.Catalog.{Catalog, View, defs_now, names_taken, view_named, view_numbered}
-use Rattle.wh_image.proofs.Listed.{any_map, find_map, map_map}
+use Rattle.def_history.specs.Catalog.{Catalog, View, defs_now, names_taken, view_named, view_numbered, views_over}
+use Rattle.wh_image.proofs.Listed.{any_map, each_from, each_weaker, filter_none, find_map, map_map}
 use Rattle.wh_image.specs.Laws.{Lookups}
 use Rattle.wh_image.specs.Standing.{StandsFor}
 use Rattle.wh_table.specs.Kept.{defs_of}
@@ -42,5 +42,11 @@ taken scn tables views c name h =
     ∙ list_any-append (same_text name) (map (λ (s : Stored). s.def.name) tables) (map (λ (k : Kept). k.view.def.name) views.views)
     ∙ (λ i. any_map (λ (s : Stored). s.def.name) (same_text name) tables i || any_map (λ (k : Kept). k.view.def.name) (same_text name) views.views i)
 
+over : (scn : ℕ) (tables : List Stored) (views : AllKept) (c : Catalog) (n : ℕ) → StandsFor scn tables views c → views_over c n ≡ []
+over scn tables views c n h =
+    filter_none (λ (v : View). option_nat_is v.def.beneath n) c.views
+    (each_weaker (λ (v : View). v.def.beneath ≡ None) (λ (v : View). option_nat_is v.def.beneath n ≡ false) (λ v none. ap (λ o. option_nat_is o n) none) c.views
+    (each_from (λ (v : View). v.def.beneath ≡ None) c.views h.over_tables))
+
 pub lookups : Lookups
-lookups = record { definitions = definitions; named = named; numbered = numbered; names = names; taken = taken }
+lookups = record { definitions = definitions; named = named; numbered = numbered; names = names; taken = taken; over = over }

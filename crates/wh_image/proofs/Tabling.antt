@@ -174,6 +174,7 @@ creates scn tables views c s h low settled none =
       whole = all_from (λ t. t.def.part_key ≡ None) (tables ++ begun def ∷ [])
           (each_append (λ t. t.def.part_key ≡ None) tables (begun def ∷ []) (each_from (λ t. t.def.part_key ≡ None) tables h.whole) (part_key, tt));
       whole_then = h.whole_then;
+      over_tables = h.over_tables;
       touches = h.touches;
       logs = h.logs;
       dimensions = h.dimensions;
@@ -242,6 +243,7 @@ module _ (scn : ℕ) (tables after : List Stored) (views : AllKept) (c : Catalog
             (each_map (λ d. is_change d.change ≡ true) (λ m. is_change m.change ≡ true) (noted (suc c.scn)) (λ d is. is) p.changes (each_from (λ d. is_change d.change ≡ true) p.changes left.noted)));
         whole = all_from (λ t. t.def.part_key ≡ None) after (defs_whole tables after left.defs (each_from (λ t. t.def.part_key ≡ None) tables h.whole));
         whole_then = h.whole_then;
+        over_tables = h.over_tables;
         touches =
             (λ i. h.touches i ++ commit_touches (suc c.scn) (sym left.base i) p.changes)
             ∙ untouched (scn + 1) (suc c.scn) 0 after p.changes;

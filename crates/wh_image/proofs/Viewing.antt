@@ -4,7 +4,7 @@ use Rattle.std.proofs.lemmas.Bool.Decides.{nat_tests}
 use Rattle.std.proofs.lemmas.List.{map-append}
 use Rattle.std.specs.List.{All, filter, find}
 use Rattle.std.specs.Option.{ForSome}
-use Rattle.std.specs.Prelude.{option_map}
+use Rattle.std.specs.Prelude.{is_some, option_map}
 use Rattle.wh_base.specs.Lists.{change_where, option_case, where_true}
 use Rattle.wh_base.specs.Tables.{def_at}
 use Rattle.wh_base.specs.declared.queries.StarQuery.{StarQuery}
@@ -17,7 +17,7 @@ use Rattle.def_journal.specs.Refreshing.{change_view, refreshed_to}
 use Rattle.def_journal.specs.Statements.{new_view, view_def, with_view}
 use Rattle.def_journal.specs.Statements as statement
 use Rattle.def_meaning.specs.Meaning.{stored}
-use Rattle.wh_image.proofs.Listed.{Each, all_from, each_append, each_changed, each_filter, each_from, each_made, map_changed, map_filter}
+use Rattle.wh_image.proofs.Listed.{Each, all_from, each_append, each_changed, each_filter, each_from, each_made, each_unmap, map_changed, map_filter}
 use Rattle.wh_image.proofs.Lookup.{definitions, lookups}
 use Rattle.wh_image.specs.Laws.{ViewChanges}
 use Rattle.wh_image.specs.Standing.{StandsFor}
@@ -33,16 +33,27 @@ Stores c k = k.entries ≡ content c k.view
 abbrev IsWhole : View → Type 0
 IsWhole v = All (λ d. d.part_key ≡ None) v.def.tables
 
+-- the view is over tables
+abbrev IsOverTables : View → Type 0
+IsOverTables v = v.def.beneath ≡ None
+
+abbrev view_of : ViewDef → Bool → Option ℕ → View
+view_of def registered point = record { def = def; point = point; registered = registered; suspended = false }
+
 -- ---- one view is changed
 
 changes : (scn : ℕ) (tables : List Stored) (views : AllKept) (c : Catalog) (n : ℕ) (f : Kept → Kept) (g : View → View) → StandsFor scn tables views c
-    → ((k : Kept) → (f k).view ≡ g k.view) → ((v : View) → IsWhole v → IsWhole (g v)) → Each (Stores c) (change_where (is_numbered n) f views.views)
-    → StandsFor scn tables (changed n f views) (change_view n g c)
-changes scn tables views c n f g h same whole contents =
+    → ((k : Kept) → IsOverTables k.view → (f k).view ≡ g k.view) → ((v : View) → IsWhole v → IsWhole (g v)) → ((v : View) → IsOverTables v → IsOverTables (g v))
+    → Each (Stores c) (change_where (is_numbered n) f views.views) → StandsFor scn tables (changed n f views) (change_view n g c)
+changes scn tables views c n f g h same whole over contents =
+    let all_over : Each IsOverTables c.views = each_from IsOverTables c.views h.over_tables in
     record {
       scn_is = h.scn_is;
       base_is = h.base_is;
-      views_are = ap (change_where (λ v. v.def.view == n) g) h.views_are ∙ sym (map_changed (λ (k : Kept). k.view) (λ v. v.def.view == n) f g same views.views);
+      views_are =
+          ap (change_where (λ v. v.def.view == n) g) h.views_are
+          ∙ sym (map_changed (λ (k : Kept). IsOverTables k.view) (λ (k : Kept). k.view) (λ v. v.def.view == n) f g same views.views
+          (each_unmap IsOverTables (λ (k : Kept). k.view) views.views (subst (Each IsOverTables) h.views_are all_over)));
       made_is = h.made_is;
       contents = all_from (Stores c) (change_where (is_numbered n) f views.views) contents;
       still = h.still;
@@ -50,6 +61,7 @@ changes scn tables views c n f g h same whole contents =
       noted = h.noted;
       whole = h.whole;
       whole_then = all_from IsWhole (change_where (λ v. v.def.view == n) g c.views) (each_changed IsWhole (λ v. v.def.view == n) g whole c.views (each_from IsWhole c.views h.whole_then));
+      over_tables = all_from IsOverTables (change_where (λ v. v.def.view == n) g c.views) (each_changed IsOverTables (λ v. v.def.view == n) g over c.views all_over);
       touches = h.touches;
       logs = h.logs;
       dimensions = h.dimensions;
@@ -58,13 +70,13 @@ changes scn tables views c n f g h same whole contents =
 switches : (scn : ℕ) (tables : List Stored) (views : AllKept) (c : Catalog) (n : ℕ) (on : Bool) → StandsFor scn tables views c
     → StandsFor scn tables (changed n (switched on) views) (change_view n (statement.switched on) c)
 switches scn tables views c n on h =
-    changes scn tables views c n (switched on) (statement.switched on) h (λ k. refl) (λ v w. w)
+    changes scn tables views c n (switched on) (statement.switched on) h (λ k o. refl) (λ v w. w) (λ v o. o)
     (each_changed (Stores c) (is_numbered n) (switched on) (λ k s. s) views.views (each_from (Stores c) views.views h.contents))
 
 unregisters : (scn : ℕ) (tables : List Stored) (views : AllKept) (c : Catalog) (n : ℕ) → StandsFor scn tables views c
     → StandsFor scn tables (changed n unregistered views) (change_view n statement.unregistered c)
 unregisters scn tables views c n h =
-    changes scn tables views c n unregistered statement.unregistered h (λ k. refl) (λ v w. w)
+    changes scn tables views c n unregistered statement.unregistered h (λ k o. refl) (λ v w. w) (λ v o. o)
     (each_changed (Stores c) (is_numbered n) unregistered (λ k s. s) views.views (each_from (Stores c) views.views h.contents))
 
 drops : (scn : ℕ) (tables : List Stored) (views : AllKept) (c : Catalog) (n : ℕ) → StandsFor scn tables views c
@@ -81,6 +93,7 @@ drops scn tables views c n h =
       noted = h.noted;
       whole = h.whole;
       whole_then = all_from IsWhole (filter (λ w. not (w.def.view == n)) c.views) (each_filter IsWhole (λ w. not (w.def.view == n)) c.views (each_from IsWhole c.views h.whole_then));
+      over_tables = all_from IsOverTables (filter (λ w. not (w.def.view == n)) c.views) (each_filter IsOverTables (λ w. not (w.def.view == n)) c.views (each_from IsOverTables c.views h.over_tables));
       touches = h.touches;
       logs = h.logs;
       dimensions = h.dimensions;
@@ -115,7 +128,7 @@ refreshes : (scn : ℕ) (tables : List Stored) (views : AllKept) (c : Catalog) (
     → AreNumbered views → ForSome (view_numbered c n) (λ v. entries ≡ stored v.def.query (base_at c p))
     → StandsFor scn tables (changed n (refreshed p entries) views) (change_view n (refreshed_to p) c)
 refreshes scn tables views c n p entries h numbers fits =
-    changes scn tables views c n (refreshed p entries) (refreshed_to p) h (λ k. refl) (λ v w. w)
+    changes scn tables views c n (refreshed p entries) (refreshed_to p) h (λ k o. ap (λ b. view_of k.view.def (not (is_some b)) (Some p)) (sym o)) (λ v w. w) (λ v o. o)
     (refresh_stores c n p entries 0 views.made views.views numbers
     (λ k found. fits k.view (lookups.numbered scn tables views c n h ∙ ap (option_map (λ (l : Kept). l.view)) found))
     (each_from (Stores c) views.views h.contents))
@@ -123,8 +136,8 @@ refreshes scn tables views c n p entries h numbers fits =
 -- ---- a new view
 
 adds : (scn : ℕ) (tables : List Stored) (views : AllKept) (c : Catalog) (v : View) (k : Kept) → StandsFor scn tables views c
-    → v ≡ k.view → IsWhole v → Stores c k → StandsFor scn tables (added k views) (with_view c v)
-adds scn tables views c v k h same whole stores =
+    → v ≡ k.view → IsWhole v → IsOverTables v → Stores c k → StandsFor scn tables (added k views) (with_view c v)
+adds scn tables views c v k h same whole over stores =
     record {
       scn_is = h.scn_is;
       base_is = h.base_is;
@@ -136,6 +149,7 @@ adds scn tables views c v k h same whole stores =
       noted = h.noted;
       whole = h.whole;
       whole_then = all_from IsWhole (c.views ++ v ∷ []) (each_append IsWhole c.views (v ∷ []) (each_from IsWhole c.views h.whole_then) (whole, tt));
+      over_tables = all_from IsOverTables (c.views ++ v ∷ []) (each_append IsOverTables c.views (v ∷ []) (each_from IsOverTables c.views h.over_tables) (over, tt));
       touches = h.touches;
       logs = h.logs;
       dimensions = h.dimensions;
@@ -146,9 +160,6 @@ whole_at : (tables : List Stored) (n : ℕ) → Each (λ s. s.def.part_key ≡ N
 whole_at [] n h = refl
 whole_at (s ∷ tables) zero h = h.0
 whole_at (s ∷ tables) (suc n) h = whole_at tables n h.1
-
-abbrev view_of : ViewDef → Bool → Option ℕ → View
-view_of def registered point = record { def = def; point = point; registered = registered; suspended = false }
 
 new_is : (def : ViewDef) (deferred : Bool) (scn now : ℕ) (entries : List ViewEntry) → now ≡ scn
     → view_of def (not deferred) (where_true (not deferred) now) ≡ (new_kept def (where_true (not deferred) scn) entries).view
@@ -169,7 +180,7 @@ creates scn tables views c s q entries h is =
     (all_from (λ d. d.part_key ≡ None) (map (def_at (defs_now c)) q.tables)
     (each_made (λ d. d.part_key ≡ None) (def_at (defs_now c))
     (λ n. ap (λ defs. (def_at defs n).part_key) (definitions scn tables views c h) ∙ whole_at tables n (each_from (λ t. t.def.part_key ≡ None) tables h.whole)) q.tables))
-    (new_stores c q s.deferred scn entries h.scn_is is)
+    refl (new_stores c q s.deferred scn entries h.scn_is is)
 
 pub view_changes : ViewChanges
 view_changes = record { switches = switches; unregisters = unregisters; drops = drops; refreshes = refreshes; creates = creates }

@@ -10,7 +10,7 @@ use Rattle.wh_base.specs.declared.statements.NewView.{NewView}
 use Rattle.wh_base.specs.declared.views.ViewEntry.{ViewEntry}
 use Rattle.def_effect.specs.Block.{Progress}
 use Rattle.def_effect.specs.Define.{defined, table_def}
-use Rattle.def_history.specs.Catalog.{Catalog, base_at, base_now, defs_now, names_taken, view_named, view_numbered}
+use Rattle.def_history.specs.Catalog.{Catalog, base_at, base_now, defs_now, names_taken, view_named, view_numbered, views_over}
 use Rattle.def_journal.specs.Committing.{after_block}
 use Rattle.def_journal.specs.Explaining.{show_view}
 use Rattle.def_journal.specs.Refreshing.{change_view, refreshed_to}
@@ -35,6 +35,8 @@ pub record Lookups : Type 0 where
   -- a name is taken exactly where a table or a view has it
   pub taken : (scn : ℕ) (tables : List Stored) (views : AllKept) (c : Catalog) (name : List ℕ) → StandsFor scn tables views c
       → has_text (names_taken c) name ≡ (list_any (λ s. same_text name s.def.name) tables || list_any (λ k. same_text name k.view.def.name) views.views)
+  -- no view is over the one of this number
+  pub over : (scn : ℕ) (tables : List Stored) (views : AllKept) (c : Catalog) (n : ℕ) → StandsFor scn tables views c → views_over c n ≡ []
 
 -- The image after a change of its views is the catalog after it, at the same SCN.
 pub record ViewChanges : Type 0 where

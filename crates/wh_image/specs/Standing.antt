@@ -25,7 +25,7 @@ abbrev pub is_change : Change → Bool
 is_change c = is_insert c || is_removal c
 
 -- The image with these tables at this SCN and these views is this catalog: it has the base state of now, the views with what they store, and
--- of the past as much as tells how fresh they are. There are no partitions, logs and dimensions.
+-- of the past as much as tells how fresh they are. There are no partitions, logs and dimensions, and no view is over another.
 pub record StandsFor (scn : ℕ) (tables : List Stored) (views : AllKept) (c : Catalog) : Type 0 where
   pub scn_is : c.scn ≡ scn
   pub base_is : base_now c ≡ base_seen scn tables
@@ -40,6 +40,8 @@ pub record StandsFor (scn : ℕ) (tables : List Stored) (views : AllKept) (c : C
   -- no table is partitioned, as it was when a view over it was made
   pub whole : All (λ s. s.def.part_key ≡ None) tables
   pub whole_then : All (λ v. All (λ d. d.part_key ≡ None) v.def.tables) c.views
+  -- each view is over tables
+  pub over_tables : All (λ v. v.def.beneath ≡ None) c.views
   pub touches : c.touches ≡ []
   pub logs : c.logs ≡ []
   pub dimensions : c.dimensions ≡ []

@@ -12,10 +12,10 @@ use Rattle.wh_base.specs.declared.replies.Refusal.{Refusal}
 use Rattle.wh_base.specs.declared.replies.Refusal.TheVariants.{NullNotAllowed, ValueDoesNotFit}
 use Rattle.wh_base.specs.declared.tables.ColumnDef.{ColumnDef}
 use Rattle.wh_base.specs.declared.tables.Kind.{Kind}
-use Rattle.wh_base.specs.declared.tables.Kind.TheVariants.{Number, Text as Bytes}
+use Rattle.wh_base.specs.declared.tables.Kind.TheVariants.{Date, Number, Text as Bytes}
 use Rattle.wh_base.specs.declared.tables.TableDef.{TableDef}
 use Rattle.wh_base.specs.declared.values.Value.{Value}
-use Rattle.wh_base.specs.declared.values.Value.TheVariants.{Null, Num, Ratio, Text}
+use Rattle.wh_base.specs.declared.values.Value.TheVariants.{Day, Null, Num, Ratio, Text}
 use Rattle.wh_load.specs.Capped.{capped, capped_number, capped_size, largest, loaded_value}
 use Rattle.wh_load.specs.Sized.{kind_is_sized}
 
@@ -60,14 +60,17 @@ number_same (negsuc n) most = ap (λ m. neg_ℤ (pos m)) (same_size (suc n) most
 pub fits_same : (k : Kind) (v : Value) → kind_is_sized k ≡ true → fits_kind k (capped v) ≡ fits_kind k v
 fits_same (Number p) (Num n) h = let few : p ≤ 15 = grind (arith, nat_tests) in ap (λ m. nat_lt m (10 ^ p)) (size_capped n) ∙ capped_fits p (nat_abs n) few
 fits_same (Bytes m) (Num n) h = refl
+fits_same Date (Num n) h = refl
 fits_same k (Text t) h = refl
 fits_same k (Ratio a) h = refl
+fits_same k (Day n) h = refl
 fits_same k Null h = refl
 
 pub null_same : (v : Value) → is_null (capped v) ≡ is_null v
 null_same (Num n) = refl
 null_same (Text t) = refl
 null_same (Ratio a) = refl
+null_same (Day n) = refl
 null_same Null = refl
 
 pub fits_exact : (k : Kind) (v : Value) → kind_is_sized k ≡ true → fits_kind k v ≡ true → capped v ≡ v
@@ -77,8 +80,10 @@ fits_exact (Number p) (Num n) h f =
     let most : 10 ^ p ≤ 10 ^ 15 = pow-le-pow_right (lit< tt) few in
     ap Num (number_same n (omega (arith, low, most)))
 fits_exact (Bytes m) (Num n) h f = cc
+fits_exact Date (Num n) h f = cc
 fits_exact k (Text t) h f = refl
 fits_exact k (Ratio a) h f = refl
+fits_exact k (Day n) h f = refl
 fits_exact k Null h f = refl
 
 -- ---- columns

@@ -2,11 +2,12 @@
 use Rattle.std.proofs.Common.{◌≡◌, ◌∙◌, sym, ap, refl, arith, ℕ, ◌+◌, ◌-◌, ◌*◌, ◌<◌, ◌≤◌, ◌&&◌, Bool, true, false, cond, List, [], ◌∷◌, length, drop, get_or, Option, Some, None, min, nat_le}
 use Rattle.std.proofs.lemmas.Bool.Decides.{nat_tests}
 use Rattle.std.proofs.lemmas.List.{drop_more}
-use Rattle.std.specs.Prelude.{option_map}
+use Rattle.std.specs.Prelude.{option_map, ℤ}
 use Rattle.def_effect.specs.Block.{field_of_kind, field_value}
 use Rattle.wh_base.specs.Values.{digits_number, digits_value}
 use Rattle.wh_base.specs.declared.tables.Kind.{Kind}
-use Rattle.wh_load.specs.Capped.{capped_size, largest}
+use Rattle.wh_base.specs.declared.values.Value.TheVariants.{Day}
+use Rattle.wh_load.specs.Capped.{capped, capped_size, largest}
 
 -- ---- digits
 
@@ -67,4 +68,9 @@ pub some_field : (k : Kind) (field : List ℕ) → (field ≡ [] → ⊥) → fi
 some_field k [] some = absurd (some refl)
 some_field k (b ∷ bs) some = refl
 
-pub ruleset fields = (some_field)
+-- a day is not capped
+pub day_whole : (day : Option ℤ) → option_map Day day ≡ option_map capped (option_map Day day)
+day_whole None = refl
+day_whole (Some n) = refl
+
+pub ruleset fields = (some_field, day_whole)

@@ -8,6 +8,7 @@ use std::alloc::{AllocError, Global};
 use wh_base::tables::Kind;
 use wh_base::txt::Txt;
 use wh_base::values::Value;
+use wh_date::day_of;
 
 /// The greatest size of a number that is read, and a tenth of it.
 const LARGEST: u128 = 100_000_000_000_000_000_000_000_000_000_000_000_000;
@@ -57,9 +58,9 @@ fn number_of(field: &[u8]) -> Option<i128>
     Some(size as i128)
 }
 
-/// The value of a field in a column of this kind: NULL for a field of no bytes, and none where the field is no number and
-/// the column holds numbers. A number of more than 10^38 in size is taken for 10^38 with its sign. An error says that memory
-/// ran out.
+/// The value of a field in a column of this kind: NULL for a field of no bytes, and none for one that is no number in a column
+/// of numbers, or no day YYYY-MM-DD in a column of days. A number of more than 10^38 in size is taken for 10^38 with its
+/// sign. An error says that memory ran out.
 #[tactic(auto, using(crate::proofs::Reading::fields))]
 pub(crate) fn field_value(
     alloc: Global,
@@ -77,5 +78,6 @@ pub(crate) fn field_value(
             None => Ok(None),
         },
         Kind::Text(_) => Ok(Some(Value::Text(field.copy(alloc)?))),
+        Kind::Date => Ok(day_of(field.as_slice()).map(Value::Day)),
     }
 }

@@ -57,8 +57,8 @@ fn row_loaded(
 
 /// The rows of a LOAD into a table with this definition, in the order of the text and with their values in declared order, or
 /// the first refusal, row by row: MV-04 for another number of fields than of columns, where `-` stands for the column, and
-/// then for the first field that is no number in a column of numbers. A field of no bytes is NULL. An error says that memory
-/// ran out.
+/// then for the first field that is no number in a column of numbers, or no day YYYY-MM-DD in a column of days. A field of no
+/// bytes is NULL. An error says that memory ran out.
 ///
 /// A number may have any number of digits, and one of more than 10^38 in size is taken for 10^38 with its sign. No column
 /// holds numbers of more than 15 digits, so a row with such a value is refused for it later, as with the number itself.

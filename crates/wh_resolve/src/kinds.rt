@@ -19,11 +19,12 @@ const NUMBER_LIMIT: u128 = 1_000_000_000_000_000;
 
 const TEXT_LIMIT: usize = 64;
 
-/// What may be compared: numbers with numbers, texts with texts, and NULL, which is of every kind, with both.
+/// What may be compared: numbers with numbers, texts with texts, days with days, and NULL, which is of every kind, with all.
 #[derive(Clone, Copy, Debug)]
 pub enum Sort {
     Number,
     Text,
+    Day,
     Any,
 }
 
@@ -33,6 +34,8 @@ pub fn agrees(a: Sort, b: Sort) -> bool
 {
     match (a, b) {
         (Sort::Number, Sort::Text) | (Sort::Text, Sort::Number) => false,
+        (Sort::Number, Sort::Day) | (Sort::Day, Sort::Number) => false,
+        (Sort::Text, Sort::Day) | (Sort::Day, Sort::Text) => false,
         _ => true,
     }
 }
@@ -46,6 +49,7 @@ pub fn part_sort(def: &TableDef, part: ColPart) -> Sort
             Some(column) => match column.kind {
                 Kind::Number(_) => Sort::Number,
                 Kind::Text(_) => Sort::Text,
+                Kind::Date => Sort::Day,
             },
             None => Sort::Any,
         },
@@ -79,6 +83,7 @@ pub fn literal_sort(literal: &Literal) -> Sort
                 Sort::Text
             }
         }
+        Literal::Dated(_) => Sort::Day,
     }
 }
 
@@ -89,6 +94,7 @@ fn is_too_long(literal: &Literal) -> bool
     match literal {
         Literal::Number(number) => is_long_number(number.get()),
         Literal::Quoted(text) => text.as_slice().len() > TEXT_LIMIT,
+        Literal::Dated(_) => false,
     }
 }
 

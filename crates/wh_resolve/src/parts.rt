@@ -91,6 +91,7 @@ fn literal_value(alloc: Global, literal: &Literal) -> Result<Value, AllocError>
                 Ok(Value::Text(text.copy(alloc)?))
             }
         }
+        Literal::Dated(day) => Ok(Value::Day(*day)),
     }
 }
 

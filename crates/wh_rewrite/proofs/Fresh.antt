@@ -132,6 +132,13 @@ whole_at (j ∷ ks) (suc n) k all e = whole_at ks n k (All-tail IsWhole j.view (
 pub all_whole : (scn : ℕ) (tables : List Stored) (views : AllKept) (c : Catalog) → StandsFor scn tables views c → All IsWhole (map (λ k. k.view) views.views)
 all_whole scn tables views c stands = subst (All IsWhole) stands.views_are stands.whole_then
 
+-- the view is over tables
+abbrev pub IsOverTables : View → Type 0
+IsOverTables v = v.def.beneath ≡ None
+
+pub all_over_tables : (scn : ℕ) (tables : List Stored) (views : AllKept) (c : Catalog) → StandsFor scn tables views c → All IsOverTables (map (λ k. k.view) views.views)
+all_over_tables scn tables views c stands = subst (All IsOverTables) stands.views_are stands.over_tables
+
 -- what is seen of a view is its state
 pub seen_is : (scn : ℕ) (tables : List Stored) (k : Kept) (result : ViewState) → result ≡ seen_state tables k.view
     → (c : Catalog) (views : AllKept) (n : ℕ) → StandsFor scn tables views c → slice_get views.views n ≡ Some k → result ≡ view_state c k.view

@@ -1,6 +1,6 @@
 -- Which views may answer a query, by what an image stores.
 use Rattle.std.specs.List.{list_all}
-use Rattle.std.specs.Prelude.{Bool, List, None, Option, Some, [], cond, false, is_none, length, nat_le, nat_lt, not, true, ℕ, ◌&&◌, ◌||◌, ◌∷◌}
+use Rattle.std.specs.Prelude.{◌≡◌, Bool, List, None, Option, Some, [], cond, false, is_none, length, nat_le, nat_lt, not, true, ℕ, ◌&&◌, ◌||◌, ◌∷◌}
 use Rattle.wh_base.specs.Lists.{option_case}
 use Rattle.wh_base.specs.declared.queries.StarQuery.{StarQuery}
 use Rattle.wh_base.specs.declared.statements.Level.{Level}
@@ -13,9 +13,9 @@ use Rattle.def_choice.specs.Eligible.{asks_freshness, holds_e9}
 use Rattle.def_history.specs.Catalog.{View}
 use Rattle.def_history.specs.Staleness.{point_of}
 use Rattle.def_restrictions.specs.Definition.{table_defs}
-use Rattle.def_rewriting.specs.Matching.{FullText, NoText, PartialText, TextMatch, match_text, read_tokens}
+use Rattle.def_rewriting.specs.Matching.{FullText, NoText, PartialText, TextMatch, match_text}
 use Rattle.wh_image.specs.Standing.{changed_at}
-use Rattle.wh_lex.specs.declared.token.Token.{Token}
+use Rattle.wh_base.specs.declared.tokens.Token.{Token}
 use Rattle.wh_table.specs.Stored.{Stored}
 use Rattle.wh_view.specs.Kept.{Kept}
 use Rattle.wh_base.specs.declared.views.Plan.TheVariants as plan
@@ -48,12 +48,9 @@ is_full_match FullText = true
 is_full_match PartialText = false
 is_full_match NoText = false
 
-abbrev pub is_full : List Token → List Token → Bool
-is_full query given = is_full_match (match_text query given)
-
--- the query's tokens are those of this text up to ORDER BY
-abbrev pub is_full_text : List Token → List ℕ → Bool
-is_full_text query text = option_case (read_tokens text) false (is_full query)
+-- the query's tokens are those of a view's query up to ORDER BY
+abbrev pub is_full_text : List Token → List Token → Bool
+is_full_text query view = is_full_match (match_text query view)
 
 -- ---- the best view
 
@@ -62,7 +59,7 @@ abbrev pub serves : List Stored → StarQuery → List Token → Level → Bool 
 serves tables q text level enabled k =
     holds_e9 q enabled k.view
     && ((not (asks_freshness level) || is_fresh (seen_state tables k.view))
-    && is_full_text text k.view.def.text)
+    && is_full_text text k.view.def.tokens)
 
 -- the view with fewer entries, of equals the one that was there
 abbrev pub lesser : Option Kept → Kept → Option Kept
@@ -76,6 +73,11 @@ best_from test best (k ∷ ks) = best_from test (cond (test k) (lesser best k) b
 
 abbrev pub plan_over : Kept → Plan
 plan_over k = plan.View (record { class = Full; view = k.view.def.view; name = k.view.def.name; point = point_of k.view; back = [] })
+
+-- a view that the plan has answers by its full text, and no table is joined back
+abbrev pub IsFullPlan : Plan → Type 0
+IsFullPlan plan.Base = Unit {0}
+IsFullPlan (plan.View p) = (p.class ≡ Full) × (p.back ≡ [])
 
 -- the plan over a view, or BASE
 abbrev pub plan_by : Option Kept → Plan

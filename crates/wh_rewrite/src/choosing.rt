@@ -1,9 +1,9 @@
 ghost use Rattle.std.specs.Prelude.{◌≡◌, IfOk, None, option_copied};
-ghost use Rattle.def_choice.specs.Choice.{choice};
+ghost use Rattle.def_choice.specs.Choice.{choice, class_is_built};
 ghost use Rattle.def_choice.specs.Eligible.{asks_freshness, holds_e9};
 ghost use Rattle.def_history.specs.Catalog.{Catalog};
 ghost use Rattle.wh_image.specs.Standing.{StandsFor};
-ghost use Rattle.wh_rewrite.specs.Served.{best_from, is_fresh, lesser, plan_by, plan_over, serves};
+ghost use Rattle.wh_rewrite.specs.Served.{IsFullPlan, best_from, is_fresh, lesser, plan_by, plan_over, serves};
 
 use crate::full_text::is_full_text;
 use crate::staleness::kept_state;
@@ -11,17 +11,17 @@ use std::alloc::{AllocError, Global};
 use wh_base::queries::StarQuery;
 use wh_base::seq::Seq;
 use wh_base::statements::Level;
+use wh_base::tokens::Token;
 use wh_base::views::{Class, Plan, ViewPlan, ViewState};
 use wh_image::Image;
-use wh_lex::token::Token;
 use wh_table::Tables;
 use wh_view::KeptView;
 
 /// The plan of a query with these tokens: the view with the fewest entries, of equals the one created first, among those whose
 /// text is the query's up to ORDER BY, that are built, enabled and FRESH; STALE_TOLERATED doesn't ask that they are FRESH. BASE
-/// where there is none, where the session has rewrite disabled, or where the query has AS OF. It reads no base rows, and the
-/// text of each view at most once. An error says that memory ran out. Full text match and the three levels are those of
-/// query rewrite in the Data Warehousing Guide; that the number of entries decides is this project's own rule.
+/// where there is none, where the session has rewrite disabled, or where the query has AS OF. It reads no base rows. An error
+/// says that memory ran out. Full text match and the three levels are those of query rewrite in the Data Warehousing Guide;
+/// that the number of entries decides is this project's own rule.
 pub fn choose<L>(
     alloc: Global,
     image: &Image<L>,
@@ -30,7 +30,8 @@ pub fn choose<L>(
     level: Level,
     enabled: bool,
 ) -> Result<Plan, AllocError>
-    ensures { (c : Catalog) → StandsFor image.now.tables.scn image.now.tables.tables.items image.now.views c → IfOk result (λ plan. plan ≡ choice c query.now text.now level enabled) }
+    ensures chosen { (c : Catalog) → StandsFor image.now.tables.scn image.now.tables.tables.items image.now.views c → IfOk result (λ plan. plan ≡ choice class_is_built c query.now text.now level enabled) }
+    ensures full { IfOk result IsFullPlan }
 {
     plan_of_views(alloc, image, query, text, level, enabled)
 }
@@ -47,7 +48,7 @@ fn plan_of_views<L>(
     ensures { IfOk result (λ plan. plan ≡ plan_by (best_from (serves image.now.tables.tables.items query.now text.now level enabled) None image.now.views.views)) }
 {
     let views = image.views.as_slice();
-    match best_of(alloc, views, &image.tables, query, text, level, enabled)? {
+    match best_of(views, &image.tables, query, text, level, enabled) {
         Some(view) => plan_over(alloc, view),
         None => Ok(Plan::Base),
     }
@@ -55,23 +56,22 @@ fn plan_of_views<L>(
 
 // The first view with the fewest entries among those that serve.
 fn best_of<'a, L>(
-    alloc: Global,
     views: &'a [KeptView],
     tables: &Tables<L>,
     query: &StarQuery,
     text: &[Token],
     level: Level,
     enabled: bool,
-) -> Result<Option<&'a KeptView>, AllocError>
-    ensures { IfOk result (λ best. option_copied best ≡ best_from (serves tables.now.tables.items query.now text.now level enabled) None views.now) }
+) -> Option<&'a KeptView>
+    ensures { option_copied result ≡ best_from (serves tables.now.tables.items query.now text.now level enabled) None views.now }
 {
     let mut best = None;
     for view in views {
-        if serves(alloc, view, tables, query, text, level, enabled)? {
+        if serves(view, tables, query, text, level, enabled) {
             best = lesser(best, view);
         }
     }
-    Ok(best)
+    best
 }
 
 // The view with fewer entries, of equals the one that was there.
@@ -92,24 +92,22 @@ fn lesser<'a>(best: Option<&'a KeptView>, view: &'a KeptView) -> Option<&'a Kept
 
 // Whether the view may answer the query, as what is stored tells it. The text is asked last, since it is dearest.
 fn serves<L>(
-    alloc: Global,
     view: &KeptView,
     tables: &Tables<L>,
     query: &StarQuery,
     text: &[Token],
     level: Level,
     enabled: bool,
-) -> Result<bool, AllocError>
-    ensures { IfOk result (λ yes. yes ≡ serves tables.now.tables.items query.now text.now level enabled view.now) }
+) -> bool
+    ensures { result ≡ serves tables.now.tables.items query.now text.now level enabled view.now }
 {
     if !is_enabled(view, query, enabled) {
-        return Ok(false);
+        return false;
     }
     if asks_freshness(level) && !is_fresh(kept_state(view, tables)) {
-        return Ok(false);
+        return false;
     }
-    let full = is_full_text(alloc, text, view.text())?;
-    Ok(full)
+    is_full_text(text, view.tokens().as_slice())
 }
 
 // The view is built and enabled, the session has rewrite enabled, and the query has no AS OF.

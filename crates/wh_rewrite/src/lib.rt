@@ -6,5 +6,4 @@ mod full_text;
 mod staleness;
 
 pub use choosing::choose;
-pub use full_text::all_tokens;
 pub use staleness::state;

@@ -1,6 +1,6 @@
 -- What the begin of a refresh leaves in its session, and what is known of it later.
-use Rattle.std.proofs.Common.{◌≡◌, ◌∙◌, ◌+◌, ap, refl, sym, subst, Bool, true, false, true≢false, cond, List, [], ◌∷◌, ◌++◌, None, Option, Some, ℕ, eq-eqb}
-use Rattle.std.specs.List.{find, list_any}
+use Rattle.std.proofs.Common.{◌≡◌, ◌∙◌, ◌+◌, ap, refl, sym, subst, Bool, true, false, true≢false, cond, List, [], ◌∷◌, ◌++◌, None, Option, Some, ℕ, ◌==◌, eq-eqb}
+use Rattle.std.specs.List.{All, find, list_any}
 use Rattle.std.specs.Option.{IsSomeAnd}
 use Rattle.std.specs.Prelude.{Ok, IsTrue, is_some, option_and_then, option_map}
 use Rattle.wh_base.specs.Lists.{option_case}
@@ -18,15 +18,16 @@ use Rattle.def_journal.specs.Journal.{event_of, reply_to, state_of}
 use Rattle.def_journal.specs.Refreshing.{Computed, computed}
 use Rattle.def_journal.specs.State as state
 use Rattle.wh_answer.specs.Over.{IsImageOf}
-use Rattle.wh_core.specs.Calls.{Computes, HasBegun}
+use Rattle.wh_core.proofs.Installs.{found_each}
+use Rattle.wh_core.specs.Calls.{Computes, HasBegun, bearer_of}
 use Rattle.wh_core.specs.declared.refreshing.Begun.{Begun}
 use Rattle.wh_image.specs.Laws.{Lookups}
 use Rattle.wh_session.specs.Parts.{ComputedOf, IsBegun, IsPending, IsThere, KeptOf}
 use Rattle.wh_table.specs.Stored.{Stored}
-use Rattle.wh_trace.proofs.Seated.{own_number, put_own}
-use Rattle.wh_trace.proofs.Traces.{state_push}
-use Rattle.wh_trace.specs.Laws.{SessionLaws}
-use Rattle.wh_trace.specs.Reached.{begun_over, catalog_of, is_of}
+use Rattle.law_trace.proofs.Seated.{own_number, put_own}
+use Rattle.law_trace.proofs.Traces.{state_push}
+use Rattle.law_trace.specs.Laws.{SessionLaws}
+use Rattle.law_trace.specs.Reached.{begun_over, catalog_of, is_of}
 use Rattle.wh_view.specs.Kept.{AllKept, Kept, is_named, is_numbered}
 
 -- ---- a view that is found by its name is found by its number
@@ -69,10 +70,10 @@ some_view : (o : Option Kept) → is_some o ≡ true → is_some (option_map (λ
 some_view None h = h
 some_view (Some k) h = refl
 
-computes_at : (c : Catalog) (n : ℕ) (rows : Option Computed) → ((v : View) → view_numbered c n ≡ Some v → IsSomeAnd rows (λ x. computed c v Complete ≡ Ok x))
+computes_at : (c : Catalog) (n : ℕ) (rows : Option Computed) → All (λ v. v.def.beneath ≡ None) c.views → ((v : View) → view_numbered c n ≡ Some v → IsSomeAnd rows (λ x. computed c v Complete ≡ Ok x))
     → (o : Option View) → view_numbered c n ≡ o → is_some o ≡ true → Computes c o rows
-computes_at c n rows of None is some = absurd (true≢false (sym some))
-computes_at c n rows of (Some v) is some = of v is
+computes_at c n rows over of None is some = absurd (true≢false (sym some))
+computes_at c n rows over of (Some v) is some = (found_each (λ (w : View). w.def.beneath ≡ None) (λ w. w.def.view == n) c.views v over is, of v is)
 
 module _ (looks : Lookups) (trace : List Event) (at : ℕ) (tables : List Stored) (views : AllKept) (image : IsImageOf trace at tables views) where
   named : (name : List ℕ) → option_map (λ k. k.view) (find (is_named name) views.views) ≡ view_named (catalog_of trace) name
@@ -81,14 +82,14 @@ module _ (looks : Lookups) (trace : List Event) (at : ℕ) (tables : List Stored
   computes : (n : Option ℕ) (rows : Option Computed) → IsThere views.views n → ComputedOf (catalog_of trace) n rows → Computes (catalog_of trace) (option_and_then (view_numbered (catalog_of trace)) n) rows
   computes None rows is of = of
   computes (Some n) rows is of =
-      computes_at (catalog_of trace) n rows of (view_numbered (catalog_of trace) n) refl
+      computes_at (catalog_of trace) n rows image.stands.over_tables of (view_numbered (catalog_of trace) n) refl
       (ap is_some (looks.numbered at tables views (catalog_of trace) n image.stands) ∙ some_view (find (is_numbered n) views.views) is)
 
   pub has_begun : (id : Id) (asked : RefreshView) (kept : Begun) (rows : Option Computed) → KeptOf at views asked.name kept → ComputedOf (catalog_of trace) kept.view rows
-      → HasBegun (trace ++ event_of id (commands.Other (about.Refresh asked)) ∷ []) id.session kept rows
+      → HasBegun (trace ++ event_of id (commands.Other (about.Refresh asked)) ∷ []) (bearer_of id) kept rows
   has_begun id asked kept rows is of =
       let c : Catalog = catalog_of trace in
-      let n : ℕ = id.session in
+      let n : ℕ = bearer_of id in
       let b : state.Begun = begun_over c asked.name in
       let x : state.Session = state.session_of (state_of trace) n in
       let view : kept.view ≡ b.view = is.view ∙ numbers (find (is_named asked.name) views.views) ∙ ap (option_map (λ w. w.def.view)) (named asked.name) in
@@ -114,8 +115,8 @@ module _ (looks : Lookups) (trace : List Event) (at : ℕ) (tables : List Stored
           command_is = command;
           built = built;
           name = is.name;
-          begun = subst (λ t. HasBegun t id.session kept rows) (sym event)
-              (subst (λ c. HasBegun (trace ++ event_of id c ∷ []) id.session kept rows) (sym command) (has_begun id asked kept rows is found));
+          begun = subst (λ t. HasBegun t (bearer_of id) kept rows) (sym event)
+              (subst (λ c. HasBegun (trace ++ event_of id c ∷ []) (bearer_of id) kept rows) (sym command) (has_begun id asked kept rows is found));
         };
         reply = ap (λ c. reply_to trace (event_of id c)) command;
         read_is = all;
@@ -127,7 +128,7 @@ pub still_begun : SessionLaws → (trace more : List Event) (n : ℕ) (kept : Be
 still_begun laws trace more n kept rows apart h =
     record { begun = h.begun; is = ap (λ y. y.begun) (laws.traces trace more n apart) ∙ h.is; view = h.view; point = h.point; scn = h.scn; computes = h.computes }
 
-pub still_pending : SessionLaws → (seen more trace : List Event) (id : Id) (k : Command) (kept : Begun) (rows : Option Computed) → trace ≡ seen ++ more → list_any (is_of id.session) more ≡ false
+pub still_pending : SessionLaws → (seen more trace : List Event) (id : Id) (k : Command) (kept : Begun) (rows : Option Computed) → trace ≡ seen ++ more → list_any (is_of (bearer_of id)) more ≡ false
     → IsPending seen id k kept rows → IsPending trace id k kept rows
 still_pending laws seen more trace id k kept rows is apart h =
     record {
@@ -135,5 +136,5 @@ still_pending laws seen more trace id k kept rows is apart h =
       command_is = h.command_is;
       built = h.built;
       name = h.name;
-      begun = subst (λ t. HasBegun t id.session kept rows) (sym is) (still_begun laws seen more id.session kept rows apart h.begun);
+      begun = subst (λ t. HasBegun t (bearer_of id) kept rows) (sym is) (still_begun laws seen more (bearer_of id) kept rows apart h.begun);
     }

@@ -1,5 +1,5 @@
-pub mod Asking
 pub mod Beginning
 pub mod Growing
 pub mod Replying
+pub mod Scripted
 pub mod Taking

@@ -1,7 +1,7 @@
 -- The replies of statements whose first part takes an image.
 use Rattle.std.proofs.Common.{◌≡◌, ◌∙◌, ◌||◌, ◌&&◌, ap, refl, sym, Bool, true, false, true≢false, List, [], ◌∷◌, Err, None, Ok, Option, Result, Some, ℕ}
 use Rattle.std.specs.List.{list_any}
-use Rattle.std.specs.Prelude.{unwrap_or}
+use Rattle.std.specs.Prelude.{is_none, unwrap_or}
 use Rattle.wh_base.specs.declared.replies.Reply.{Reply}
 use Rattle.wh_base.specs.declared.statements.Asked.{Asked}
 use Rattle.wh_base.specs.declared.statements.Command.{Command}
@@ -22,18 +22,19 @@ use Rattle.wh_base.specs.declared.replies.Reply.TheVariants as reply
 use Rattle.def_journal.specs.Journal.{commands_of, event_of, reply_to, state_of}
 use Rattle.def_journal.specs.State.{Session, image_of, session_of}
 use Rattle.wh_answer.specs.Answered.{Selects, ShowsViews, selected, shown_view}
-use Rattle.wh_trace.specs.Reached.{catalog_of}
-use Rattle.wh_view_law.specs.Laws.{SessionsArePlain, is_setting}
+use Rattle.wh_core.specs.Calls.{bearer_of}
+use Rattle.law_trace.specs.Reached.{catalog_of}
+use Rattle.law_views.specs.Laws.{SessionsArePlain, is_setting}
 
-and_left : (a b : Bool) → (a && b) ≡ true → a ≡ true
+pub and_left : (a b : Bool) → (a && b) ≡ true → a ≡ true
 and_left true b e = refl
 and_left false b e = e
 
-and_right : (a b : Bool) → (a && b) ≡ true → b ≡ true
+pub and_right : (a b : Bool) → (a && b) ≡ true → b ≡ true
 and_right true b e = e
 and_right false b e = absurd (true≢false (sym e))
 
-neither : (a b : Bool) → a ≡ false → b ≡ false → (a || b) ≡ false
+pub neither : (a b : Bool) → a ≡ false → b ≡ false → (a || b) ≡ false
 neither true b h k = h
 neither false b h k = k
 
@@ -43,6 +44,7 @@ sets_nothing : (entry : Entry) (k : Command) → command_is_built k ≡ true →
 sets_nothing entry (commands.Block b) built = refl
 sets_nothing entry (commands.Other (about.Session s)) built = absurd (true≢false (sym built))
 sets_nothing entry (commands.Other s) built = refl
+sets_nothing entry (commands.Submit s) built = absurd (true≢false (sym built))
 
 pub none_sets : (trace : List Event) → commands_are_built (commands_of trace) ≡ true → list_any is_setting trace ≡ false
 none_sets [] built = refl
@@ -56,16 +58,16 @@ module _ (plain : SessionsArePlain) (trace : List Event) (id : Id) (built : comm
   pub selects : Selects → (a : Asked) → reply_to trace (event_of id (commands.Other (about.Select a))) ≡ Some (selected (catalog_of trace) true a)
   selects agree a =
       let none = none_sets trace built in
-      let x : Session = session_of (state_of trace) id.session in
-      ap (λ step. step.reply) (agree.step (state_of trace) x a (plain.level trace id.session none))
-      ∙ (λ i. Some (selected (unwrap_or (plain.reading trace id.session none i) (catalog_of trace)) (plain.rewrite trace id.session none i) a))
+      let x : Session = session_of (state_of trace) (bearer_of id) in
+      ap (λ step. step.reply) (agree.step (state_of trace) x a (plain.level trace (bearer_of id) none))
+      ∙ (λ i. Some (selected (unwrap_or (plain.reading trace (bearer_of id) none i) (catalog_of trace)) (plain.rewrite trace (bearer_of id) none i) a))
 
   pub shows : ShowsViews → (name : List ℕ) → reply_to trace (event_of id (commands.Other (about.Show (ShowView name)))) ≡ Some (shown_view (catalog_of trace) name)
   shows agree name =
       let none = none_sets trace built in
-      let x : Session = session_of (state_of trace) id.session in
+      let x : Session = session_of (state_of trace) (bearer_of id) in
       ap (λ step. step.reply) (agree.step (state_of trace) (image_of (state_of trace) x) name)
-      ∙ ap (λ (o : Option Catalog). Some (shown_view (unwrap_or o (catalog_of trace)) name)) (plain.reading trace id.session none)
+      ∙ ap (λ (o : Option Catalog). Some (shown_view (unwrap_or o (catalog_of trace)) name)) (plain.reading trace (bearer_of id) none)
 
   -- for a command that is one of these
   pub select_reply : Selects → (k : Command) (s : Statement) (a : Asked) (r : Reply) → k ≡ commands.Other s → s ≡ about.Select a → r ≡ selected (catalog_of trace) true a → reply_to trace (event_of id k) ≡ Some r
@@ -88,3 +90,11 @@ unread_of c (Ok v) = refl
 
 pub shows_unread : (trace : List Event) (name : List ℕ) (r : Reply) → r ≡ shown_view (catalog_of trace) name → read_of r ≡ 0
 shows_unread trace name r is = ap read_of is ∙ unread_of (catalog_of trace) (the_view (catalog_of trace) name)
+
+none_of : {A : Type 0} (o : Option A) → is_none o ≡ true → o ≡ None
+none_of None h = refl
+none_of (Some x) h = absurd (true≢false (sym h))
+
+-- a query that is built has no AS OF
+pub asks_now : (k : Command) (s : Statement) (a : Asked) → k ≡ commands.Other s → s ≡ about.Select a → command_is_built k ≡ true → a.query.as_of ≡ None
+asks_now k s a command statement built = none_of a.query.as_of (sym (ap command_is_built (command ∙ ap commands.Other statement)) ∙ built)

@@ -19,7 +19,7 @@ entries_of session taken rest = flat_map (command_entries session) (enumerate_fr
 -- the same with the install of a refresh that has begun before them
 abbrev pub left_of : ℕ → ℕ → Option Pending → List Command → List Entry
 left_of session taken None rest = entries_of session taken rest
-left_of session taken (Some p) rest = record { session = p.id.session; command = p.id.command; part = 2 } ∷ entries_of session taken rest
+left_of session taken (Some p) rest = record { session = p.id.session; command = p.id.command; part = 2; worker = p.id.worker } ∷ entries_of session taken rest
 
 -- the base rows that it has read
 abbrev pub ahead_of : Option Pending → ℕ
@@ -29,11 +29,12 @@ ahead_of (Some p) = option_case p.computed 0 (λ x. x.read)
 -- how far a session has come that has begun so many of its commands
 abbrev pub run_of : Section → List Event → ℕ → ℕ → Option Pending → List Command → Telling → Run
 run_of section seen session taken pending rest telling =
-    record { section = section; left = left_of session taken pending rest; seen = seen; text = telling.text; tally = telling.tally; ahead = ahead_of pending }
+    record { section = section; left = left_of session taken pending rest; seen = seen; version = telling.version; text = telling.text; tally = telling.tally; ahead = ahead_of pending }
 
--- The refresh is a command of the section, and has begun in the trace.
+-- The refresh is a command of the section, which its session does itself, and has begun in the trace.
 pub record IsBegunIn (section : Section) (trace : List Event) (p : Pending) : Type 0 where
   pub own : p.id.session ≡ section.session
+  pub alone : p.id.worker ≡ 0
   pub names : slice_get section.commands (p.id.command - 1) ≡ Some p.command
   pub is : IsPending trace p.id p.command p.begun p.computed
 

@@ -16,7 +16,7 @@ use Rattle.def_history.specs.Catalog.{Catalog, View, view_numbered}
 use Rattle.def_journal.specs.Journal.{event_of, reply_to}
 use Rattle.def_journal.specs.Refreshing.{Computed, computed}
 use Rattle.def_output.specs.Reads.{read_of}
-use Rattle.wh_core.specs.Calls.{HasBegun, install_of}
+use Rattle.wh_core.specs.Calls.{HasBegun, bearer_of, install_of}
 use Rattle.wh_core.specs.declared.refreshing.Begun.{Begun}
 use Rattle.wh_session.specs.Tally.{Telling, told_after}
 use Rattle.wh_session.specs.declared.parts.Part.{Part}
@@ -35,7 +35,7 @@ pub record IsPending (trace : List Event) (id : Id) (command : Command) (kept : 
   pub command_is : command ≡ commands.Other (about.Refresh asked)
   pub built : IsTrue (command_is_built command)
   pub name : kept.name ≡ asked.name
-  pub begun : HasBegun trace id.session kept done
+  pub begun : HasBegun trace (bearer_of id) kept done
 
 -- It gave no reply, and read what was computed.
 pub record IsBegun (trace trace_after : List Event) (id : Id) (command : Command) (kept : Begun) (done : Option Computed) (read read_after : ℕ) : Type 0 where

@@ -1,13 +1,14 @@
 ghost use Rattle.std.specs.Prelude.{◌≡◌, ◌≤◌, ◌+◌, ◌^◌, [], ◌∷◌, ◌++◌, IfOk, OnErr, OnOk, IsTrue, Some};
 ghost use Rattle.def_built.specs.Commands.{command_is_built};
-ghost use Rattle.def_journal.specs.Journal.{event_of, reply_to};
+ghost use Rattle.def_journal.specs.Journal.{commands_of, event_of, reply_to};
 ghost use Rattle.def_output.specs.Reads.{read_of};
 ghost use Rattle.wh_answer.specs.Answered.{most_reads};
 ghost use Rattle.wh_base.specs.Lists.{option_case};
-ghost use Rattle.wh_core.specs.Calls.{install_of};
+ghost use Rattle.wh_core.specs.Calls.{IsOverTables, install_of};
 ghost use Rattle.wh_session.specs.Parts.{IsFinished, IsFirst, IsPending, IsStarted};
 ghost use Rattle.wh_session.specs.Run.{Grows};
-ghost use Rattle.wh_view_law.specs.Read.{IsRead};
+ghost use Rattle.wh_session.specs.Tally.{told_after};
+ghost use Rattle.law_views.specs.Read.{IsRead};
 
 use crate::snapshots::{begin_part, select_part, show_part};
 use crate::telling::Telling;
@@ -50,6 +51,7 @@ pub fn start<L>(
     reads: &mut Reads<L>,
 ) -> Result<Option<Pending>, AllocError>
     requires built { IsTrue (command_is_built command) }
+    requires over_tables { IsOverTables (commands_of core.old) command }
     requires read { IsRead command }
     ensures trace { OnOk result (core.new ≡ core.old ++ event_of id command ∷ []) }
     ensures started { IfOk result (λ pending. IsStarted core.old core.new id command pending telling.old telling.new reads.old reads.new) }
@@ -58,7 +60,8 @@ pub fn start<L>(
 {
     match first_part(alloc, core, id, command.get(), reads)? {
         Part::Replied(reply) => {
-            telling.tell(id, &reply)?;
+            drop(command);
+            tell(telling, id, reply)?;
             Ok(None)
         }
         Part::Begun(begun, computed) => {
@@ -85,7 +88,17 @@ pub fn finish<L>(
 {
     let id = pending.id;
     let reply = second_part(core, pending);
-    telling.tell(id, &reply)?;
+    tell(telling, id, reply)?;
+    Ok(())
+}
+
+/// Tells a reply and lets it go. An error is one of `Telling::tell`.
+fn tell(telling: &mut Telling, id: Id, reply: Reply) -> Result<(), AllocError>
+    ensures { OnOk result (telling.new ≡ told_after telling.old id reply) }
+{
+    let told = telling.tell(id, &reply);
+    drop(reply);
+    told?;
     Ok(())
 }
 
@@ -100,6 +113,7 @@ fn first_part<L>(
     reads: &mut Reads<L>,
 ) -> Result<Part, AllocError>
     requires built { IsTrue (command_is_built command.now) }
+    requires over_tables { IsOverTables (commands_of core.old) command.now }
     requires read { IsRead command.now }
     ensures trace { OnOk result (core.new ≡ core.old ++ event_of id command.now ∷ []) }
     ensures first { IfOk result (λ part. IsFirst core.old core.new id command.now part reads.old reads.new) }
@@ -118,6 +132,8 @@ fn first_part<L>(
             let part = statement_part(alloc, core, id, command, statement, reads)?;
             Ok(part)
         }
+        // No command of a form that is built hands a refresh to the workers.
+        Command::Submit(_) => unreachable!(),
     }
 }
 
@@ -133,6 +149,7 @@ fn statement_part<L>(
 ) -> Result<Part, AllocError>
     requires command { command.now ≡ Command.Other statement.now }
     requires built { IsTrue (command_is_built command.now) }
+    requires over_tables { IsOverTables (commands_of core.old) command.now }
     requires read { IsRead command.now }
     requires room { reads.old ≤ 2 ^ 63 }
     ensures trace { OnOk result (core.new ≡ core.old ++ event_of id command.now ∷ []) }
@@ -143,7 +160,7 @@ fn statement_part<L>(
 {
     match statement {
         Statement::Select(asked) => {
-            let reply = select_part(alloc, core, id, command, statement, asked, reads)?;
+            let reply = select_part(alloc, core, id, command, statement, asked.get(), reads)?;
             Ok(Part::Replied(reply))
         }
         Statement::Show(shown) => {

@@ -1,9 +1,10 @@
 ghost use Rattle.std.specs.Prelude.{◌≡◌, ◌≤◌, [], IfOk, OnErr, false, true};
-ghost use Rattle.wh_session.specs.Run.{CanRun, Continues, Grows, Takes, begun};
+ghost use Rattle.wh_session.specs.Run.{AreOverTables, CanRun, Continues, Grows, Takes, begun};
 
 use crate::parts::{Pending, finish, start};
 use crate::tally::Tally;
 use crate::telling::Telling;
+use law_trace::laws::sessions_stand_apart;
 use std::alloc::{AllocError, Global};
 use std::marker::Model;
 use std::snapshot::Snapshot;
@@ -11,11 +12,11 @@ use std::vec::IntoIter;
 use wh_base::reads::Reads;
 use wh_base::shared::Shared;
 use wh_base::statements::{Command, Id, Section};
+use wh_base::values::Version;
 use wh_core::Core;
-use wh_trace::laws::sessions_stand_apart;
 
-/// A session, 0 for the setup. Contracts see its section, what is left of its parts, and the text and the tally of its replies so far. A command
-/// is gone once it has run.
+/// A session, 0 for the setup. Contracts see its section, what is left of its parts, and the version, the text and the tally of its replies so far. A
+/// command is gone once it has run.
 #[derive(Drop)]
 pub struct Session<L> {
     number: u32,
@@ -44,10 +45,11 @@ impl<L> Model for Session<L> {
 }
 
 impl<L> Session<L> {
-    /// A session with nothing done. Its commands have to be of forms that are built, and each has to ask what its text reads as. Takes no memory.
-    pub fn new(alloc: Global, section: Section) -> Session<L>
+    /// A session with nothing done, that tells its replies in this version of transcripts. Its commands have to be of forms that are built, and each has to
+    /// ask what its tokens read as. Takes no memory.
+    pub fn new(alloc: Global, version: Version, section: Section) -> Session<L>
         requires { CanRun section }
-        ensures { result ≡ begun section }
+        ensures { result ≡ begun version section }
     {
         let whole = Snapshot::of(&section);
         let Section { session, commands } = section;
@@ -56,7 +58,7 @@ impl<L> Session<L> {
             taken: 0,
             rest: commands.into_vec().into_iter(),
             pending: None,
-            telling: Telling::new(alloc),
+            telling: Telling::new(alloc, version),
             section: whole,
             seen: None,
         }
@@ -87,9 +89,10 @@ impl<L> Session<L> {
     /// Takes the session's next part: the event of the part is the next of the core's trace, and its reply, where the part gives one, is the definition's. It
     /// answers false exactly where no part is left; then nothing changes. A refresh is computed at its begin, over the image that is taken there.
     ///
-    /// The core's trace has to go on from what it was at the session's last part, without an event of the session. An error says that memory ran out, that
-    /// the counter stands above 2^63 rows, that a number of the tally would have more than 64 bits, or one of the other things that `Core::commit` names,
-    /// which no run brings about; then the core's trace may have the event of the part, and the session must not be run again.
+    /// The core's trace has to go on from what it was at the session's last part, without an event of the session, and the session may create no view over
+    /// one that a command of the trace creates. An error says that memory ran out, that the counter stands above 2^63 rows, that a number of the tally would
+    /// have more than 64 bits, or one of the other things that `Core::commit` names, which no run brings about; then the core's trace may have the event of
+    /// the part, and the session must not be run again.
     ///
     /// `reads` rises by the base rows that the reply says were read; for a refresh it rises at the begin by those of the install's reply. After an error it
     /// may have risen by more or less.
@@ -100,6 +103,7 @@ impl<L> Session<L> {
         reads: &mut Reads<L>,
     ) -> Result<bool, AllocError>
         requires goes_on { Continues self.old core.old }
+        requires over_tables { AreOverTables core.old self.old.section }
         ensures none { IfOk result (λ took. took ≡ false → self.old.left ≡ []) }
         ensures same { IfOk result (λ took. took ≡ false → self.new ≡ self.old) }
         ensures same_core { IfOk result (λ took. took ≡ false → core.new ≡ core.old) }
@@ -121,6 +125,7 @@ impl<L> Session<L> {
         let id = Id {
             session: self.number,
             command: self.taken,
+            worker: 0,
         };
         self.pending = start(alloc, core, id, command, &mut self.telling, reads)?;
         self.seen = Some(Snapshot::of(core));

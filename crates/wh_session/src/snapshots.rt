@@ -9,11 +9,12 @@ ghost use Rattle.wh_base.specs.Lists.{option_case};
 ghost use Rattle.wh_base.specs.declared.statements.Event.{Event};
 ghost use Rattle.wh_session.specs.Parts.{ComputedOf, IsFirst, IsReplied, IsThere, KeptOf};
 ghost use Rattle.wh_session.specs.Run.{Grows};
-ghost use Rattle.wh_trace.specs.Reached.{catalog_of};
+ghost use Rattle.law_trace.specs.Reached.{catalog_of};
 ghost use Rattle.wh_view.specs.Kept.{is_named};
-ghost use Rattle.wh_view_law.specs.Read.{IsRead};
+ghost use Rattle.law_views.specs.Read.{IsRead};
 
 use crate::parts::Part;
+use law_views::laws::plain_sessions;
 use std::alloc::{AllocError, Global};
 use wh_answer::laws::{selects_agree, shows_agree};
 use wh_answer::{Computed, compute, select, show_view};
@@ -25,7 +26,6 @@ use wh_core::{Begun, Core};
 use wh_image::Image;
 use wh_image::laws::lookups_agree;
 use wh_view::Views;
-use wh_view_law::laws::plain_sessions;
 
 /// SELECT: its reply over the image that is taken. No session changes its settings, so it is answered under ENFORCED with rewrite enabled.
 #[tactic(auto, using(crate::proofs::Growing::growing))]

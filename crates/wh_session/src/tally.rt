@@ -97,7 +97,12 @@ fn read_of(reply: &Reply) -> u64
         Reply::Refresh(reply) => reply.read,
         Reply::Validate(reply) => reply.read,
         Reply::Refuse(reply) => reply.read,
-        Reply::Purge(_) | Reply::View(_) | Reply::Log(_) | Reply::Explain(_) | Reply::Rewrite(_) =>
-            0,
+        Reply::RefreshList(reply) => reply.read,
+        Reply::Purge(_)
+        | Reply::View(_)
+        | Reply::Log(_)
+        | Reply::Explain(_)
+        | Reply::Rewrite(_)
+        | Reply::Submit => 0,
     }
 }

@@ -6,11 +6,13 @@ use std::alloc::{AllocError, Global};
 use std::marker::Model;
 use wh_base::replies::Reply;
 use wh_base::statements::Id;
+use wh_base::values::Version;
 use wh_render::push_reply;
 
-/// What a session keeps of its replies: their text, and their tally.
+/// What a session keeps of its replies: their text in a version of transcripts, and their tally.
 #[derive(Drop)]
 pub struct Telling {
+    version: Version,
     text: Vec<u8>,
     tally: Tally,
 }
@@ -20,15 +22,16 @@ impl Model for Telling {
 
     ghost Value = { kept.Telling };
 
-    ghost view = { λ t. record { text = t.text.items; tally = t.tally } };
+    ghost view = { λ t. record { version = t.version; text = t.text.items; tally = t.tally } };
 }
 
 impl Telling {
     /// That of no replies. Takes no memory.
-    pub fn new(alloc: Global) -> Telling
-        ensures { result ≡ record { text = []; tally = tally_of [] } }
+    pub fn new(alloc: Global, version: Version) -> Telling
+        ensures { result ≡ record { version = version; text = []; tally = tally_of [] } }
     {
         Telling {
+            version,
             text: Vec::new(alloc),
             tally: Tally::new(),
         }
@@ -39,7 +42,7 @@ impl Telling {
     pub fn tell(&mut self, id: Id, reply: &Reply) -> Result<(), AllocError>
         ensures { OnOk result (self.new ≡ told_after self.old id reply.now) }
     {
-        push_reply(&mut self.text, id, reply)?;
+        push_reply(&mut self.text, self.version, id, reply)?;
         self.tally = self.tally.plus(Tally::of(reply))?;
         Ok(())
     }

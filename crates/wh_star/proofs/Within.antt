@@ -16,7 +16,7 @@ use Rattle.wh_base.specs.declared.values.Interval.{Interval}
 use Rattle.wh_base.specs.declared.values.Op.{Op}
 use Rattle.wh_base.specs.declared.values.Op.TheVariants.{Eq, Ge, Gt, Le, Lt, Ne}
 use Rattle.wh_base.specs.declared.values.Value.{Value}
-use Rattle.wh_base.specs.declared.values.Value.TheVariants.{Null, Num, Ratio, Text}
+use Rattle.wh_base.specs.declared.values.Value.TheVariants.{Null, Ratio}
 use Rattle.def_meaning.proofs.Merging.{at_least_trans, at_most_trans, either_lesser, either_null}
 use Rattle.def_meaning.specs.Joined.{condition_true, conditions_true}
 use Rattle.wh_star.proofs.Spread.{AllHave, has-value}
@@ -125,9 +125,7 @@ module _ (v : Value) where
 
 null-never : (v : Value) (op : Op) → is_true_that v op Null ≡ false
 null-never Null op = refl
-null-never (Num n) op = refl
-null-never (Text t) op = refl
-null-never (Ratio a) op = refl
+null-never v op = refl
 
 null-is : (m : Value) → is_null m ≡ true → m ≡ Null
 null-is Null h = refl

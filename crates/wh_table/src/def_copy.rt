@@ -17,6 +17,7 @@ pub fn copied_def(alloc: Global, def: &TableDef) -> Result<TableDef, AllocError>
         name: def.name.copied(alloc)?,
         primary: def.primary,
         part_key: def.part_key,
+        movement: def.movement,
     })
 }
 

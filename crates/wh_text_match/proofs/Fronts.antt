@@ -4,7 +4,7 @@ use Rattle.std.proofs.lemmas.List.{drop_more}
 use Rattle.std.proofs.lemmas.List.Sums.{take_while-cons}
 use Rattle.std.specs.Prelude.{codes, not, take_while}
 use Rattle.def_rewriting.specs.Matching.{from_on, is_word, same_token, same_tokens}
-use Rattle.wh_lex.specs.declared.token.Token.{Token}
+use Rattle.wh_base.specs.declared.tokens.Token.{Token}
 
 pub front-is : (p : Token → Bool) (ts : List Token) → take (length (take_while p ts)) ts ≡ take_while p ts
 front-is p [] = refl

@@ -3,7 +3,7 @@ ghost use Rattle.def_rewriting.specs.Matching as defs;
 ghost use Rattle.std.specs.Prelude.{◌≡◌, ◌≤◌, length, not, take_while};
 ghost use Rattle.wh_text_match.specs.Match.{meant};
 
-use wh_lex::token::{Token, TokenKind};
+use wh_base::tokens::{Token, TokenKind};
 
 /// How the text of a query matches the text of a view's definition.
 #[derive(Clone, Copy, Debug, PartialEq, Eq)]

@@ -1,5 +1,6 @@
 pub mod Apart
 pub mod Counts
+pub mod Inputs
 pub mod Lines
 pub mod Outputs
 pub mod Parts

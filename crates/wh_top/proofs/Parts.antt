@@ -7,11 +7,12 @@ use Rattle.std.proofs.lemmas.List.Concat.{flat_map-append}
 use Rattle.std.proofs.lemmas.List.Elements.{filter-append}
 use Rattle.std.proofs.lemmas.List.Folds.{list_any-append}
 use Rattle.std.proofs.lemmas.List.Sums.{sum_by-append}
-use Rattle.wh_base.specs.Parts.{section_entries}
+use Rattle.wh_base.specs.Parts.{bearer, section_entries}
 use Rattle.wh_base.specs.declared.statements.Entry.{Entry}
 use Rattle.wh_base.specs.declared.statements.Event.{Event}
 use Rattle.wh_base.specs.declared.statements.Script.{Script}
 use Rattle.wh_base.specs.declared.statements.Section.{Section}
+use Rattle.wh_base.specs.declared.values.Version.{Version}
 use Rattle.def_journal.specs.Journal.{Told, command_of, given_by, of_session, replies_of, reply_to, trace_of}
 use Rattle.def_output.specs.Generator.{is_refused, is_rewritten}
 use Rattle.def_output.specs.Reads.{read_of}
@@ -20,7 +21,7 @@ use Rattle.wh_order.specs.Laws.{IsNext, session_told, told_in, told_text}
 use Rattle.wh_order.proofs.Told.{told_in_of}
 use Rattle.wh_session.specs.Run.{Run, Takes}
 use Rattle.wh_session.specs.Tally.{both, tally_of}
-use Rattle.wh_trace.specs.Reached.{is_of}
+use Rattle.law_trace.specs.Reached.{is_of}
 use Rattle.wh_top.specs.Running.{AreAsFar, IsAsFar, place_of}
 use Rattle.wh_top.proofs.Apart.{AreApart, AreOthers}
 
@@ -37,10 +38,10 @@ trace_push script front e = map-append (λ x. event_at script x) front (e ∷ []
 pub told_push : (script : Script) (front : List Entry) (e : Entry) (n : ℕ) → told_in n (replies_of (trace_of script (front ++ e ∷ []))) ≡ told_in n (replies_of (trace_of script front)) ++ cond (e.session == n) (given_by (event_at script e) (reply_to (trace_of script front) (event_at script e))) []
 told_push script front e n = ap (λ t. told_in n (replies_of t)) (trace_push script front e) ∙ told_in_of n (trace_of script front) (event_at script e)
 
-told_text_append : (xs ys : List Told) → told_text (xs ++ ys) ≡ told_text xs ++ told_text ys
-told_text_append xs ys =
-    ap lines_text (flat_map-append (λ (t : Told). reply_lines t.id t.reply) xs ys)
-    ∙ flat_map-append (λ (l : List ℕ). l ++ 10 ∷ []) (flat_map (λ t. reply_lines t.id t.reply) xs) (flat_map (λ t. reply_lines t.id t.reply) ys)
+told_text_append : (version : Version) (xs ys : List Told) → told_text version (xs ++ ys) ≡ told_text version xs ++ told_text version ys
+told_text_append version xs ys =
+    ap lines_text (flat_map-append (λ (t : Told). reply_lines version t.id t.reply) xs ys)
+    ∙ flat_map-append (λ (l : List ℕ). l ++ 10 ∷ []) (flat_map (λ t. reply_lines version t.id t.reply) xs) (flat_map (λ t. reply_lines version t.id t.reply) ys)
 
 count_append : (p : Told → Bool) (xs ys : List Told) → count_by p (xs ++ ys) ≡ count_by p xs + count_by p ys
 count_append p xs ys = sum_by-append (λ (t : Told). cond (p t) 1 0) xs ys
@@ -58,8 +59,8 @@ own_push front e n b is = filter-append (λ x. x.session == n) front (e ∷ []) 
 
 -- ---- another session's part
 
-pub other_far : (script : Script) (front : List Entry) (e : Entry) (s : Section) (r : Run) → (e.session == s.session) ≡ false → IsAsFar script front s r → IsAsFar script (front ++ e ∷ []) s r
-other_far script front e s r other far =
+pub other_far : (version : Version) (script : Script) (front : List Entry) (e : Entry) (s : Section) (r : Run) → e.worker ≡ 0 → (e.session == s.session) ≡ false → IsAsFar version script front s r → IsAsFar version script (front ++ e ∷ []) s r
+other_far version script front e s r alone other far =
     let trace : List Event = trace_of script front in
     let x : Event = event_at script e in
     let same : of_session s.session (front ++ e ∷ []) ≡ of_session s.session front = own_push front e s.session false other ∙ append-nil (of_session s.session front) in
@@ -68,11 +69,12 @@ other_far script front e s r other far =
     ∙ ap (λ b. session_told script front s ++ cond b (given_by x (reply_to trace x)) []) other
     ∙ append-nil (session_told script front s) in
     let number : r.section.session ≡ s.session = ap (λ t. t.session) far.section_is in
-    let apart : is_of r.section.session x ≡ false = ap (λ n. e.session == n) number ∙ other in
+    let apart : is_of r.section.session x ≡ false = ap (λ w. bearer e.session w == r.section.session) alone ∙ ap (λ n. e.session == n) number ∙ other in
     record {
+      version_is = far.version_is;
       section_is = far.section_is;
       left_is = far.left_is ∙ sym (ap (λ es. drop (length es) (section_entries s)) same);
-      text_is = far.text_is ∙ sym (ap told_text told);
+      text_is = far.text_is ∙ sym (ap (told_text version) told);
       tally_is = far.tally_is ∙ sym (ap tally_of told);
       goes_on = record {
         more = far.goes_on.more ++ x ∷ [];
@@ -82,13 +84,13 @@ other_far script front e s r other far =
       ended = far.ended;
     }
 
-pub others_far : (script : Script) (front : List Entry) (e : Entry) (ss : List Section) (rs : List Run) → AreOthers e.session ss → AreAsFar script front ss rs → AreAsFar script (front ++ e ∷ []) ss rs
-others_far script front e [] [] others far = tt
-others_far script front e [] (r ∷ rs) others far = far
-others_far script front e (s ∷ ss) [] others far = far
-others_far script front e (s ∷ ss) (r ∷ rs) others far =
+pub others_far : (version : Version) (script : Script) (front : List Entry) (e : Entry) (ss : List Section) (rs : List Run) → e.worker ≡ 0 → AreOthers e.session ss → AreAsFar version script front ss rs → AreAsFar version script (front ++ e ∷ []) ss rs
+others_far version script front e [] [] alone others far = tt
+others_far version script front e [] (r ∷ rs) alone others far = far
+others_far version script front e (s ∷ ss) [] alone others far = far
+others_far version script front e (s ∷ ss) (r ∷ rs) alone others far =
     let other : (e.session == s.session) ≡ false = ne_eqb e.session s.session (λ same. eqb-false s.session e.session others.0 (sym same)) in
-    (other_far script front e s r other far.0, others_far script front e ss rs others.1 far.1)
+    (other_far version script front e s r alone other far.0, others_far version script front e ss rs alone others.1 far.1)
 
 -- ---- the session's own part
 
@@ -111,53 +113,57 @@ rest_is : (x y : Entry) (xs ys : List Entry) → x ∷ xs ≡ y ∷ ys → xs �
 rest_is x y xs ys e = cc
 
 -- what is left of a session whose part comes next
-pub left_next : (script : Script) (front : List Entry) (e : Entry) (r : Run) (next : IsNext script front e) → next.section.session ≡ e.session → IsAsFar script front next.section r → r.left ≡ e ∷ drop (suc (length (of_session e.session front))) (section_entries next.section)
-left_next script front e r next own far =
+pub left_next : (version : Version) (script : Script) (front : List Entry) (e : Entry) (r : Run) (next : IsNext script front e) → next.section.session ≡ e.session → IsAsFar version script front next.section r → r.left ≡ e ∷ drop (suc (length (of_session e.session front))) (section_entries next.section)
+left_next version script front e r next own far =
     far.left_is
     ∙ ap (λ n. drop (length (of_session n front)) (section_entries next.section)) own
     ∙ drop_next (section_entries next.section) (length (of_session e.session front)) e next.next
 
 -- the event of the part is the one that the script gives its entry
-pub event_is : (script : Script) (front : List Entry) (e : Entry) (r after : Run) (trace_after : List Event) (read read_after : ℕ) (next : IsNext script front e) → next.section.session ≡ e.session → IsAsFar script front next.section r → (takes : Takes r after (trace_of script front) trace_after read read_after) → event_at script e ≡ record { entry = takes.entry; command = takes.command }
-event_is script front e r after trace_after read read_after next own far takes =
-    let parts = sym takes.next ∙ left_next script front e r next own far in
+pub event_is : (version : Version) (script : Script) (front : List Entry) (e : Entry) (r after : Run) (trace_after : List Event) (read read_after : ℕ) (next : IsNext script front e) → next.section.session ≡ e.session → IsAsFar version script front next.section r → (takes : Takes r after (trace_of script front) trace_after read read_after) → event_at script e ≡ record { entry = takes.entry; command = takes.command }
+event_is version script front e r after trace_after read read_after next own far takes =
+    let parts = sym takes.next ∙ left_next version script front e r next own far in
     let entry : takes.entry ≡ e = first_is takes.entry e after.left (drop (suc (length (of_session e.session front))) (section_entries next.section)) parts in
     let found : Some takes.command ≡ Some next.names.command = sym takes.names ∙ ap (λ s. slice_get s.commands (takes.entry.command - 1)) far.section_is ∙ ap (λ x. slice_get next.section.commands (x.command - 1)) entry ∙ next.names.at in
     let command : takes.command ≡ command_of script e = some_is takes.command next.names.command found ∙ sym next.command_is in
     sym (ap (λ x. record { entry = x; command = takes.command }) entry ∙ ap (λ c. record { entry = e; command = c }) command)
 
-pub trace_is : (script : Script) (front : List Entry) (e : Entry) (r after : Run) (trace_after : List Event) (read read_after : ℕ) (next : IsNext script front e) → next.section.session ≡ e.session → IsAsFar script front next.section r → Takes r after (trace_of script front) trace_after read read_after → trace_after ≡ trace_of script (front ++ e ∷ [])
-trace_is script front e r after trace_after read read_after next own far takes =
+pub trace_is : (version : Version) (script : Script) (front : List Entry) (e : Entry) (r after : Run) (trace_after : List Event) (read read_after : ℕ) (next : IsNext script front e) → next.section.session ≡ e.session → IsAsFar version script front next.section r → Takes r after (trace_of script front) trace_after read read_after → trace_after ≡ trace_of script (front ++ e ∷ [])
+trace_is version script front e r after trace_after read read_after next own far takes =
     takes.event_is
-    ∙ ap (λ x. trace_of script front ++ x ∷ []) (sym (event_is script front e r after trace_after read read_after next own far takes))
+    ∙ ap (λ x. trace_of script front ++ x ∷ []) (sym (event_is version script front e r after trace_after read read_after next own far takes))
     ∙ sym (trace_push script front e)
 
-pub own_far : (script : Script) (front : List Entry) (e : Entry) (r after : Run) (trace_after : List Event) (read read_after : ℕ) (next : IsNext script front e) → next.section.session ≡ e.session → IsAsFar script front next.section r → Takes r after (trace_of script front) trace_after read read_after → IsAsFar script (front ++ e ∷ []) next.section after
-own_far script front e r after trace_after read read_after next own far takes =
+pub own_far : (version : Version) (script : Script) (front : List Entry) (e : Entry) (r after : Run) (trace_after : List Event) (read read_after : ℕ) (next : IsNext script front e) → next.section.session ≡ e.session → IsAsFar version script front next.section r → Takes r after (trace_of script front) trace_after read read_after → IsAsFar version script (front ++ e ∷ []) next.section after
+own_far version script front e r after trace_after read read_after next own far takes =
     let s : Section = next.section in
     let trace : List Event = trace_of script front in
     let x : Event = event_at script e in
     let k : ℕ = length (of_session e.session front) in
     let same : (e.session == s.session) ≡ true = eq-eqb e.session s.session (sym own) in
-    let event : x ≡ record { entry = takes.entry; command = takes.command } = event_is script front e r after trace_after read read_after next own far takes in
-    let more : after.left ≡ drop (suc k) (section_entries s) = rest_is takes.entry e after.left (drop (suc k) (section_entries s)) (sym takes.next ∙ left_next script front e r next own far) in
+    let event : x ≡ record { entry = takes.entry; command = takes.command } = event_is version script front e r after trace_after read read_after next own far takes in
+    let more : after.left ≡ drop (suc k) (section_entries s) = rest_is takes.entry e after.left (drop (suc k) (section_entries s)) (sym takes.next ∙ left_next version script front e r next own far) in
     let entries : of_session s.session (front ++ e ∷ []) ≡ of_session s.session front ++ e ∷ [] = own_push front e s.session true same in
     let here : length (of_session s.session front) ≡ k = ap (λ n. length (of_session n front)) own in
     let count : length (of_session s.session (front ++ e ∷ [])) ≡ suc k = ap length entries ∙ length-append (of_session s.session front) (e ∷ []) ∙ omega (arith, here) in
     let told : session_told script (front ++ e ∷ []) s ≡ session_told script front s ++ given_by x (reply_to trace x) =
     told_push script front e s.session
     ∙ ap (λ b. session_told script front s ++ cond b (given_by x (reply_to trace x)) []) same in
-    let text : told_text (session_told script (front ++ e ∷ []) s) ≡ told_text (session_told script front s) ++ told_text (given_by x (reply_to trace x)) = ap told_text told ∙ told_text_append (session_told script front s) (given_by x (reply_to trace x)) in
+    let text : told_text version (session_told script (front ++ e ∷ []) s) ≡ told_text version (session_told script front s) ++ told_text version (given_by x (reply_to trace x)) = ap (told_text version) told ∙ told_text_append version (session_told script front s) (given_by x (reply_to trace x)) in
     let tally : tally_of (session_told script (front ++ e ∷ []) s) ≡ both (tally_of (session_told script front s)) (tally_of (given_by x (reply_to trace x))) = ap tally_of told ∙ tally_append (session_told script front s) (given_by x (reply_to trace x)) in
     record {
+      version_is = takes.version_is ∙ far.version_is;
       section_is = takes.section_is ∙ far.section_is;
       left_is = more ∙ sym (ap (λ n. drop n (section_entries s)) count);
-      text_is = takes.text_is ∙ ap (λ t. t ++ told_text (given_by (record { entry = takes.entry; command = takes.command }) (reply_to trace (record { entry = takes.entry; command = takes.command })))) far.text_is ∙ sym (text ∙ ap (λ y. told_text (session_told script front s) ++ told_text (given_by y (reply_to trace y))) event);
+      text_is = takes.text_is
+          ∙ ap (λ v. r.text ++ told_text v (given_by (record { entry = takes.entry; command = takes.command }) (reply_to trace (record { entry = takes.entry; command = takes.command })))) far.version_is
+          ∙ ap (λ t. t ++ told_text version (given_by (record { entry = takes.entry; command = takes.command }) (reply_to trace (record { entry = takes.entry; command = takes.command })))) far.text_is
+          ∙ sym (text ∙ ap (λ y. told_text version (session_told script front s) ++ told_text version (given_by y (reply_to trace y))) event);
       tally_is = takes.tally_is ∙ ap (λ t. both t (tally_of (given_by (record { entry = takes.entry; command = takes.command }) (reply_to trace (record { entry = takes.entry; command = takes.command }))))) far.tally_is
           ∙ sym (tally ∙ ap (λ y. both (tally_of (session_told script front s)) (tally_of (given_by y (reply_to trace y)))) event);
       goes_on = record {
         more = [];
-        is = sym (trace_is script front e r after trace_after read read_after next own far takes) ∙ sym takes.seen_is ∙ sym (append-nil after.seen);
+        is = sym (trace_is version script front e r after trace_after read read_after next own far takes) ∙ sym takes.seen_is ∙ sym (append-nil after.seen);
         apart = refl;
       };
       ended = takes.ended;
@@ -166,16 +172,16 @@ own_far script front e r after trace_after read read_after next own far takes =
 -- ---- the session among the others
 
 -- the run of the first section with the number n
-pub run_found : (script : Script) (front : List Entry) (n : ℕ) (s : Section) (ss : List Section) (rs : List Run) → AreAsFar script front ss rs → find (λ t. t.session == n) ss ≡ Some s → (r : Run) × (slice_get rs (place_of n rs) ≡ Some r) × IsAsFar script front s r
-run_found script front n s [] rs far found = none_is_some s found
-run_found script front n s (t ∷ ss) [] far found = absurd far
-run_found script front n s (t ∷ ss) (r ∷ rs) far found = by (t.session == n) refl found (run_found script front n s ss rs far.1)
+pub run_found : (version : Version) (script : Script) (front : List Entry) (n : ℕ) (s : Section) (ss : List Section) (rs : List Run) → AreAsFar version script front ss rs → find (λ t. t.session == n) ss ≡ Some s → (r : Run) × (slice_get rs (place_of n rs) ≡ Some r) × IsAsFar version script front s r
+run_found version script front n s [] rs far found = none_is_some s found
+run_found version script front n s (t ∷ ss) [] far found = absurd far
+run_found version script front n s (t ∷ ss) (r ∷ rs) far found = by (t.session == n) refl found (run_found version script front n s ss rs far.1)
   where
     test : (r.section.session == n) ≡ (t.session == n)
     test = ap (λ u. u.session == n) far.0.section_is
 
-    by : (b : Bool) → (t.session == n) ≡ b → cond b (Some t) (find (λ u. u.session == n) ss) ≡ Some s → (find (λ u. u.session == n) ss ≡ Some s → (q : Run) × (slice_get rs (place_of n rs) ≡ Some q) × IsAsFar script front s q) → (q : Run) × (slice_get (r ∷ rs) (place_of n (r ∷ rs)) ≡ Some q) × IsAsFar script front s q
-    by true is here later = (r, ap (λ b. slice_get (r ∷ rs) (cond b 0 (suc (place_of n rs)))) (test ∙ is), subst (λ u. IsAsFar script front u r) (some_is t s here) far.0)
+    by : (b : Bool) → (t.session == n) ≡ b → cond b (Some t) (find (λ u. u.session == n) ss) ≡ Some s → (find (λ u. u.session == n) ss ≡ Some s → (q : Run) × (slice_get rs (place_of n rs) ≡ Some q) × IsAsFar version script front s q) → (q : Run) × (slice_get (r ∷ rs) (place_of n (r ∷ rs)) ≡ Some q) × IsAsFar version script front s q
+    by true is here later = (r, ap (λ b. slice_get (r ∷ rs) (cond b 0 (suc (place_of n rs)))) (test ∙ is), subst (λ u. IsAsFar version script front u r) (some_is t s here) far.0)
     by false is here later =
         let rest = later here in
         (rest.0, ap (λ b. slice_get (r ∷ rs) (cond b 0 (suc (place_of n rs)))) (test ∙ is) ∙ rest.1, rest.2)
@@ -190,10 +196,10 @@ found_own n s (t ∷ ss) found = by (t.session == n) refl found (found_own n s s
     by false is here later = later here
 
 -- it alone has gone on
-pub all_far : (script : Script) (front : List Entry) (e : Entry) (s : Section) (after : Run) (ss : List Section) (rs : List Run) → AreApart ss → AreAsFar script front ss rs → find (λ t. t.session == e.session) ss ≡ Some s → IsAsFar script (front ++ e ∷ []) s after → AreAsFar script (front ++ e ∷ []) ss (slice_set rs (place_of e.session rs) after)
-all_far script front e s after [] rs apart far found own = none_is_some s found
-all_far script front e s after (t ∷ ss) [] apart far found own = absurd far
-all_far script front e s after (t ∷ ss) (r ∷ rs) apart far found own = by (t.session == e.session) refl found (all_far script front e s after ss rs apart.1 far.1)
+pub all_far : (version : Version) (script : Script) (front : List Entry) (e : Entry) (s : Section) (after : Run) (ss : List Section) (rs : List Run) → e.worker ≡ 0 → AreApart ss → AreAsFar version script front ss rs → find (λ t. t.session == e.session) ss ≡ Some s → IsAsFar version script (front ++ e ∷ []) s after → AreAsFar version script (front ++ e ∷ []) ss (slice_set rs (place_of e.session rs) after)
+all_far version script front e s after [] rs alone apart far found own = none_is_some s found
+all_far version script front e s after (t ∷ ss) [] alone apart far found own = absurd far
+all_far version script front e s after (t ∷ ss) (r ∷ rs) alone apart far found own = by (t.session == e.session) refl found (all_far version script front e s after ss rs alone apart.1 far.1)
   where
     n : ℕ
     n = e.session
@@ -201,14 +207,14 @@ all_far script front e s after (t ∷ ss) (r ∷ rs) apart far found own = by (t
     test : (r.section.session == n) ≡ (t.session == n)
     test = ap (λ u. u.session == n) far.0.section_is
 
-    by : (b : Bool) → (t.session == n) ≡ b → cond b (Some t) (find (λ u. u.session == n) ss) ≡ Some s → (find (λ u. u.session == n) ss ≡ Some s → IsAsFar script (front ++ e ∷ []) s after → AreAsFar script (front ++ e ∷ []) ss (slice_set rs (place_of n rs) after)) → AreAsFar script (front ++ e ∷ []) (t ∷ ss) (slice_set (r ∷ rs) (place_of n (r ∷ rs)) after)
+    by : (b : Bool) → (t.session == n) ≡ b → cond b (Some t) (find (λ u. u.session == n) ss) ≡ Some s → (find (λ u. u.session == n) ss ≡ Some s → IsAsFar version script (front ++ e ∷ []) s after → AreAsFar version script (front ++ e ∷ []) ss (slice_set rs (place_of n rs) after)) → AreAsFar version script (front ++ e ∷ []) (t ∷ ss) (slice_set (r ∷ rs) (place_of n (r ∷ rs)) after)
     by true is here later =
         let place : place_of n (r ∷ rs) ≡ 0 = ap (λ b. cond b 0 (suc (place_of n rs))) (test ∙ is) in
         let others : AreOthers n ss = subst (λ m. AreOthers m ss) (eqb-true t.session n is) apart.0 in
-        let both : AreAsFar script (front ++ e ∷ []) (t ∷ ss) (after ∷ rs) = (subst (λ u. IsAsFar script (front ++ e ∷ []) u after) (sym (some_is t s here)) own, others_far script front e ss rs others far.1) in
-        subst (λ k. AreAsFar script (front ++ e ∷ []) (t ∷ ss) (slice_set (r ∷ rs) k after)) (sym place) both
+        let both : AreAsFar version script (front ++ e ∷ []) (t ∷ ss) (after ∷ rs) = (subst (λ u. IsAsFar version script (front ++ e ∷ []) u after) (sym (some_is t s here)) own, others_far version script front e ss rs alone others far.1) in
+        subst (λ k. AreAsFar version script (front ++ e ∷ []) (t ∷ ss) (slice_set (r ∷ rs) k after)) (sym place) both
     by false is here later =
         let place : place_of n (r ∷ rs) ≡ suc (place_of n rs) = ap (λ b. cond b 0 (suc (place_of n rs))) (test ∙ is) in
         let other : (n == t.session) ≡ false = ne_eqb n t.session (λ same. eqb-false t.session n is (sym same)) in
-        let both : AreAsFar script (front ++ e ∷ []) (t ∷ ss) (r ∷ slice_set rs (place_of n rs) after) = (other_far script front e t r other far.0, later here own) in
-        subst (λ k. AreAsFar script (front ++ e ∷ []) (t ∷ ss) (slice_set (r ∷ rs) k after)) (sym place) both
+        let both : AreAsFar version script (front ++ e ∷ []) (t ∷ ss) (r ∷ slice_set rs (place_of n rs) after) = (other_far version script front e t r alone other far.0, later here own) in
+        subst (λ k. AreAsFar version script (front ++ e ∷ []) (t ∷ ss) (slice_set (r ∷ rs) k after)) (sym place) both

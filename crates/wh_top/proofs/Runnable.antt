@@ -1,19 +1,23 @@
 -- A script that is read can be run.
-use Rattle.std.proofs.Common.{◌≡◌, ap, subst, sym, arith, ℕ, suc, zero, ◌<◌, ◌≤◌, ◌==◌, ◌||◌, true, List, [], ◌∷◌, length, map, get_or}
+use Rattle.std.proofs.Common.{◌≡◌, ap, refl, subst, sym, arith, suc, zero, ◌<◌, ◌≤◌, ◌==◌, ◌||◌, ◌&&◌, true, List, [], ◌∷◌, map}
 use Rattle.std.specs.List.{All, AllByRecursion, AllPairs, list_all}
-use Rattle.std.proofs.lemmas.Bool.{and_parts}
+use Rattle.std.proofs.lemmas.Bool.{and_from, and_parts}
 use Rattle.std.proofs.lemmas.List.Elements.{All-from_recursion}
-use Rattle.def_built.specs.Commands.{commands_are_built}
-use Rattle.def_built.specs.Form.{script_is_built, section_is_built, sections_are_built}
+use Rattle.def_built.specs.Commands.{command_is_built, commands_are_built}
+use Rattle.def_built.specs.Form.{script_is_built, section_is_built, sections_are_built, views_are_built}
 use Rattle.def_built.specs.Forms.{is_built}
 use Rattle.def_built.specs.declared.forms.Form.TheVariants as forms
 use Rattle.wh_base.specs.Lists.{is_empty}
+use Rattle.wh_base.specs.declared.statements.Command.{Command}
+use Rattle.wh_base.specs.declared.statements.Command.TheVariants as commands
 use Rattle.wh_base.specs.declared.statements.Script.{Script}
 use Rattle.wh_base.specs.declared.statements.Section.{Section}
+use Rattle.def_journal.specs.Jobs.{accepted_submits}
 use Rattle.def_journal.specs.Journal.{session_numbers}
+use Rattle.def_journal.proofs.NoJobs.{accepts_nothing, submit_nothing}
 use Rattle.wh_order.specs.Laws.{number_twice}
 use Rattle.wh_session.specs.Run.{CanRun}
-use Rattle.wh_view_law.specs.Read.{IsRead}
+use Rattle.law_views.specs.Read.{IsRead}
 use Rattle.wh_top.specs.Running.{IsRunnable, most_sessions}
 use Rattle.wh_top.proofs.Apart.{once_from_ascent}
 
@@ -31,16 +35,45 @@ all_built [] h = tt
 all_built (s ∷ []) h = (one_built s h, tt)
 all_built (s ∷ t ∷ more) h = each_built (s ∷ t ∷ more) (and_parts (is_built forms.Session) (list_all section_is_built (s ∷ t ∷ more)) h).1
 
-numbers_within : (ss : List Section) (k d : ℕ) → k < length (map (λ s. s.session) ss) → All (λ s. s.session ≤ most_sessions) ss → get_or (map (λ s. s.session) ss) k d ≤ most_sessions
-numbers_within [] k d within h = absurd (omega (arith, within))
-numbers_within (s ∷ ss) zero d within h = h 0 s (omega arith)
-numbers_within (s ∷ ss) (suc k) d within h = numbers_within ss k d (omega (arith, within)) (λ j t inside. h (suc j) t (omega (arith, inside)))
+within_numbers : (ss : List Section) → All (λ n. n ≤ most_sessions) (map (λ s. s.session) ss) → All (λ s. s.session ≤ most_sessions) ss
+within_numbers [] h k d within = absurd (omega (arith, within))
+within_numbers (s ∷ ss) h zero d within = h 0 0 (omega arith)
+within_numbers (s ∷ ss) h (suc k) d within = within_numbers ss (λ j e inside. h (suc j) e (omega (arith, inside))) k d (omega (arith, within))
+
+-- what is built of a script: its sections, and beside them what isn't told by one section
+built_sections : (script : Script) → script_is_built script ≡ true → sections_are_built script.sections ≡ true
+built_sections script built =
+    let views = views_are_built script.sections in
+    let others = (is_empty script.order || is_built forms.Order) && ((script.workers == 0) || is_built forms.Workers) in
+    (and_parts (sections_are_built script.sections) views (and_parts (sections_are_built script.sections && views) others built).0).0
 
 can_run : (script : Script) → script_is_built script ≡ true → All (λ s. All IsRead s.commands) script.sections → All CanRun script.sections
 can_run script built read =
-    let parts = and_parts (sections_are_built script.sections) (is_empty script.order || is_built forms.Order) built in
-    let commands : All (λ s. commands_are_built s.commands ≡ true) script.sections = All-from_recursion (λ s. commands_are_built s.commands ≡ true) script.sections (all_built script.sections parts.0) in
-    λ k d within. record { built = commands k d within; read = read k d within }
+    let all_commands : All (λ s. commands_are_built s.commands ≡ true) script.sections = All-from_recursion (λ s. commands_are_built s.commands ≡ true) script.sections (all_built script.sections (built_sections script built)) in
+    λ k d within. record { built = all_commands k d within; read = read k d within }
+
+-- ---- no jobs
+
+-- no command of a form that is built submits anything
+submits_nothing : (cs : List Command) → commands_are_built cs ≡ true → submit_nothing cs ≡ true
+submits_nothing [] h = refl
+submits_nothing (c ∷ cs) h =
+    let parts = and_parts (command_is_built c) (commands_are_built cs) h in
+    by c parts.0 (submits_nothing cs parts.1)
+  where
+    by : (c : Command) → command_is_built c ≡ true → submit_nothing cs ≡ true → submit_nothing (c ∷ cs) ≡ true
+    by (commands.Block b) built rest = rest
+    by (commands.Other s) built rest = rest
+    by (commands.Submit s) built rest = absurd (cc)
+
+all_submit_nothing : (ss : List Section) → AllByRecursion (λ s. commands_are_built s.commands ≡ true) ss → list_all (λ s. submit_nothing s.commands) ss ≡ true
+all_submit_nothing [] h = refl
+all_submit_nothing (s ∷ ss) h = and_from (submit_nothing s.commands) (list_all (λ t. submit_nothing t.commands) ss) (submits_nothing s.commands h.0) (all_submit_nothing ss h.1)
+
+no_jobs : (script : Script) → script_is_built script ≡ true → accepted_submits script ≡ []
+no_jobs script built = accepts_nothing script (all_submit_nothing script.sections (all_built script.sections (built_sections script built)))
+
+-- ---- the whole
 
 pub runnable : (script : Script) → script_is_built script ≡ true → All (λ s. All IsRead s.commands) script.sections → AllPairs (λ s t. s.session < t.session) script.sections → All (λ s. s.session ≤ most_sessions) script.sections → IsRunnable script
 runnable script built read ascend low =
@@ -48,7 +81,8 @@ runnable script built read ascend low =
       built = built;
       sections = can_run script built read;
       differ = once_from_ascent script ascend;
-      within = λ k d within. numbers_within script.sections k d within low;
+      within = low;
+      no_jobs = no_jobs script built;
     }
 
 -- a script with these sessions
@@ -61,5 +95,6 @@ three_sessions script built read numbers =
       built = built;
       sections = can_run script built read;
       differ = ap number_twice numbers;
-      within = subst (All (λ n. n ≤ most_sessions)) (sym numbers) few_numbers;
+      within = within_numbers script.sections (subst (All (λ n. n ≤ most_sessions)) (sym numbers) few_numbers);
+      no_jobs = no_jobs script built;
     }

@@ -9,29 +9,32 @@ use Rattle.wh_base.specs.declared.statements.Entry.{Entry}
 use Rattle.wh_base.specs.declared.statements.Event.{Event}
 use Rattle.wh_base.specs.declared.statements.Script.{Script}
 use Rattle.wh_base.specs.declared.statements.Section.{Section}
+use Rattle.wh_base.specs.declared.values.Version.{Version}
 use Rattle.def_journal.specs.Journal.{given_by, is_legal, of_session, reply_to, state_of, trace_of}
 use Rattle.def_output.specs.Reads.{reads_of}
 use Rattle.wh_order.specs.Laws.{IsNext}
 use Rattle.wh_order.proofs.Journals.{next_part}
-use Rattle.wh_session.specs.Run.{Run, Takes, begun}
+use Rattle.wh_session.specs.Run.{AreOverTables, Run, Takes, begun}
+use Rattle.wh_session.proofs.Scripted.{over_tables}
 use Rattle.wh_top.specs.Running.{AreAsFar, CountedSoFar, HasNext, IsAsFar, IsRunnable, IsTaken, ahead_of, most_sessions, place_of, read_by}
 use Rattle.wh_top.proofs.Apart.{apart_of}
 use Rattle.wh_top.proofs.Counts.{counted_next}
 use Rattle.wh_top.proofs.Parts.{all_far, event_at, event_is, found_own, left_next, own_far, run_found, trace_is}
 
 -- The parts of the front are taken: the trace is that of the front, and the sessions and the counters are as far.
-pub record SoFar (script : Script) (front : List Entry) (trace : List Event) (runs : List Run) (old reads : List ℕ) : Type 0 where
+pub record SoFar (version : Version) (script : Script) (front : List Entry) (trace : List Event) (runs : List Run) (old reads : List ℕ) : Type 0 where
   pub trace_is : trace ≡ trace_of script front
-  pub far : AreAsFar script front script.sections runs
+  pub far : AreAsFar version script front script.sections runs
   pub counted : CountedSoFar script front runs old reads
   pub many : length reads ≡ 65
 
 -- ---- at the start
 
-begun_far : (script : Script) (ss : List Section) → AreAsFar script [] ss (map begun ss)
-begun_far script [] = tt
-begun_far script (s ∷ ss) = (
+begun_far : (version : Version) (script : Script) (ss : List Section) → AreAsFar version script [] ss (map (begun version) ss)
+begun_far version script [] = tt
+begun_far version script (s ∷ ss) = (
   record {
+    version_is = refl;
     section_is = refl;
     left_is = refl;
     text_is = refl;
@@ -39,7 +42,7 @@ begun_far script (s ∷ ss) = (
     goes_on = record { more = []; is = refl; apart = refl };
     ended = λ h. refl;
   },
-  begun_far script ss,
+  begun_far version script ss,
 )
 
 -- the same in both cases
@@ -47,12 +50,12 @@ pub neither : (b : Bool) (n : ℕ) → cond b n n ≡ n
 neither true n = refl
 neither false n = refl
 
-begun_ahead : (n : ℕ) (ss : List Section) → ahead_of n (map begun ss) ≡ 0
-begun_ahead n [] = refl
-begun_ahead n (s ∷ ss) =
+begun_ahead : (version : Version) (n : ℕ) (ss : List Section) → ahead_of n (map (begun version) ss) ≡ 0
+begun_ahead version n [] = refl
+begun_ahead version n (s ∷ ss) =
     let f : Run → ℕ = λ r. cond (r.section.session == n) r.ahead 0 in
-    let none : f (begun s) ≡ 0 = neither (s.session == n) 0 in
-    omega (arith, sum_by-cons f (begun s) (map begun ss), none, begun_ahead n ss)
+    let none : f (begun version s) ≡ 0 = neither (s.session == n) 0 in
+    omega (arith, sum_by-cons f (begun version s) (map (begun version) ss), none, begun_ahead version n ss)
 
 none_raised : (f : ℕ → ℕ) (k : ℕ) (old : List ℕ) → ((n : ℕ) → f n ≡ 0) → old ≡ map (λ p. p.1 + f p.0) (enumerate_from k old)
 none_raised f k [] none = refl
@@ -60,86 +63,86 @@ none_raised f k (c ∷ cs) none =
     let here : c ≡ c + f k = omega (arith, none k) in
     ap (λ x. x ∷ cs) here ∙ ap (λ xs. (c + f k) ∷ xs) (none_raised f (k + 1) cs none)
 
-pub start_so_far : (script : Script) (runs : List Run) (reads : List ℕ) → runs ≡ map begun script.sections → length reads ≡ 65 → SoFar script [] [] runs reads reads
-start_so_far script runs reads is many = subst (λ rs. SoFar script [] [] rs reads reads) (sym is) (record {
+pub start_so_far : (version : Version) (script : Script) (runs : List Run) (reads : List ℕ) → runs ≡ map (begun version) script.sections → length reads ≡ 65 → SoFar version script [] [] runs reads reads
+start_so_far version script runs reads is many = subst (λ rs. SoFar version script [] [] rs reads reads) (sym is) (record {
   trace_is = refl;
-  far = begun_far script script.sections;
-  counted = none_raised (read_by script [] (map begun script.sections)) 0 reads (λ n. omega (arith, begun_ahead n script.sections));
+  far = begun_far version script script.sections;
+  counted = none_raised (read_by script [] (map (begun version) script.sections)) 0 reads (λ n. omega (arith, begun_ahead version n script.sections));
   many = many;
 })
 
 -- ---- the next part
 
--- the number of the entry is at most the greatest
-within_sessions : (n : ℕ) (s : Section) (ss : List Section) → All (λ m. m ≤ most_sessions) (map (λ t. t.session) ss) → find (λ t. t.session == n) ss ≡ Some s → s.session ≤ most_sessions
-within_sessions n s [] h found = none found
+-- what holds of each section holds of the one that is found
+found_among : (P : Section → Type 0) (n : ℕ) (s : Section) (ss : List Section) → All P ss → find (λ t. t.session == n) ss ≡ Some s → P s
+found_among P n s [] h found = none found
   where
-    none : find (λ t. t.session == n) [] ≡ Some s → s.session ≤ most_sessions
+    none : find (λ t. t.session == n) [] ≡ Some s → P s
     none e = cc
-within_sessions n s (t ∷ ss) h found = by (t.session == n) found (within_sessions n s ss (λ k d within. h (suc k) d (omega (arith, within))))
+found_among P n s (t ∷ ss) h found = by (t.session == n) found (found_among P n s ss (λ k d within. h (suc k) d (omega (arith, within))))
   where
-    first : t.session ≤ most_sessions
-    first = h 0 0 (omega arith)
-
     some : Some t ≡ Some s → t ≡ s
     some e = cc
 
-    by : (b : Bool) → cond b (Some t) (find (λ u. u.session == n) ss) ≡ Some s → (find (λ u. u.session == n) ss ≡ Some s → s.session ≤ most_sessions) → s.session ≤ most_sessions
-    by true here later = subst (λ u. u.session ≤ most_sessions) (some here) first
+    by : (b : Bool) → cond b (Some t) (find (λ u. u.session == n) ss) ≡ Some s → (find (λ u. u.session == n) ss ≡ Some s → P s) → P s
+    by true here later = subst P (some here) (h 0 t (omega arith))
     by false here later = later here
 
+-- the number of the entry is at most the greatest
 pub entry_within : (script : Script) (front rest : List Entry) (e : Entry) → IsRunnable script → is_legal script (front ++ e ∷ rest) ≡ true → e.session ≤ most_sessions
 entry_within script front rest e runnable legal =
-    let next : IsNext script front e = next_part script front rest e legal in
-    subst (λ n. n ≤ most_sessions) (found_own e.session next.section script.sections next.found) (within_sessions e.session next.section script.sections runnable.within next.found)
+    let next : IsNext script front e = next_part script front rest e runnable.no_jobs legal in
+    subst (λ n. n ≤ most_sessions) (found_own e.session next.section script.sections next.found) (found_among (λ t. t.session ≤ most_sessions) e.session next.section script.sections runnable.within next.found)
 
-pub next_so_far : (script : Script) (front rest : List Entry) (e : Entry) (trace : List Event) (runs : List Run) (old reads : List ℕ) → is_legal script (front ++ e ∷ rest) ≡ true → SoFar script front trace runs old reads → HasNext e.session runs trace
-next_so_far script front rest e trace runs old reads legal far =
-    let next : IsNext script front e = next_part script front rest e legal in
+pub next_so_far : (version : Version) (script : Script) (front rest : List Entry) (e : Entry) (trace : List Event) (runs : List Run) (old reads : List ℕ) → IsRunnable script → is_legal script (front ++ e ∷ rest) ≡ true → SoFar version script front trace runs old reads → HasNext e.session runs trace
+next_so_far version script front rest e trace runs old reads runnable legal far =
+    let next : IsNext script front e = next_part script front rest e runnable.no_jobs legal in
     let own = found_own e.session next.section script.sections next.found in
-    let run = run_found script front e.session next.section script.sections runs far.far next.found in
+    let run = run_found version script front e.session next.section script.sections runs far.far next.found in
+    let over : AreOverTables (trace_of script front) next.section = found_among (AreOverTables (trace_of script front)) e.session next.section script.sections (over_tables script front runnable.built) next.found in
     subst (HasNext e.session runs) (sym far.trace_is) (record {
       run = run.0;
       there = run.1;
       entry = e;
       later = drop (suc (length (of_session e.session front))) (section_entries next.section);
-      left_is = left_next script front e run.0 next own run.2;
+      left_is = left_next version script front e run.0 next own run.2;
       goes_on = run.2.goes_on;
+      over_tables = subst (AreOverTables (trace_of script front)) (sym run.2.section_is) over;
     })
 
 some_run : (x y : Run) → Some x ≡ Some y → x ≡ y
 some_run x y e = cc
 
-pub step_so_far : (script : Script) (front rest : List Entry) (e : Entry) (trace trace_after : List Event) (runs runs_after : List Run) (old reads reads_after : List ℕ) → IsRunnable script → is_legal script (front ++ e ∷ rest) ≡ true → length old ≡ 65 → SoFar script front trace runs old reads → IsTaken e.session runs runs_after trace trace_after reads reads_after → SoFar script (front ++ e ∷ []) trace_after runs_after old reads_after
-step_so_far script front rest e trace trace_after runs runs_after old reads reads_after runnable legal many far taken =
+pub step_so_far : (version : Version) (script : Script) (front rest : List Entry) (e : Entry) (trace trace_after : List Event) (runs runs_after : List Run) (old reads reads_after : List ℕ) → IsRunnable script → is_legal script (front ++ e ∷ rest) ≡ true → length old ≡ 65 → SoFar version script front trace runs old reads → IsTaken e.session runs runs_after trace trace_after reads reads_after → SoFar version script (front ++ e ∷ []) trace_after runs_after old reads_after
+step_so_far version script front rest e trace trace_after runs runs_after old reads reads_after runnable legal many far taken =
     let n : ℕ = e.session in
-    let next : IsNext script front e = next_part script front rest e legal in
+    let next : IsNext script front e = next_part script front rest e runnable.no_jobs legal in
     let s : Section = next.section in
     let own : s.session ≡ n = found_own n s script.sections next.found in
-    let found = run_found script front n s script.sections runs far.far next.found in
+    let found = run_found version script front n s script.sections runs far.far next.found in
     let same : found.0 ≡ taken.run = some_run found.0 taken.run (sym found.1 ∙ taken.there) in
-    let here : IsAsFar script front s taken.run = subst (IsAsFar script front s) same found.2 in
+    let here : IsAsFar version script front s taken.run = subst (IsAsFar version script front s) same found.2 in
     let place : ℕ = place_of n runs in
     let read : ℕ = slice_index reads n in
     let takes : Takes taken.run taken.after (trace_of script front) trace_after read taken.count = subst (λ t. Takes taken.run taken.after t trace_after read taken.count) far.trace_is taken.takes in
-    let event : event_at script e ≡ record { entry = takes.entry; command = takes.command } = event_is script front e taken.run taken.after trace_after read taken.count next own here takes in
+    let event : event_at script e ≡ record { entry = takes.entry; command = takes.command } = event_is version script front e taken.run taken.after trace_after read taken.count next own here takes in
     let number : taken.run.section.session ≡ n = ap (λ t. t.session) here.section_is ∙ own in
     let low_number : n ≤ most_sessions = entry_within script front rest e runnable legal in
     let raise : taken.count + taken.run.ahead ≡ read + (reads_of (given_by (event_at script e) (reply_to (trace_of script front) (event_at script e))) + taken.after.ahead) = takes.read_is ∙ sym (ap (λ x. read + (reads_of (given_by x (reply_to (trace_of script front) x)) + taken.after.ahead)) event) in
-    let after : SoFar script (front ++ e ∷ []) trace_after (slice_set runs place taken.after) old (slice_set reads n taken.count) = record {
-      trace_is = trace_is script front e taken.run taken.after trace_after read taken.count next own here takes;
-      far = all_far script front e s taken.after script.sections runs (apart_of script runnable.differ) far.far next.found (own_far script front e taken.run taken.after trace_after read taken.count next own here takes);
+    let after : SoFar version script (front ++ e ∷ []) trace_after (slice_set runs place taken.after) old (slice_set reads n taken.count) = record {
+      trace_is = trace_is version script front e taken.run taken.after trace_after read taken.count next own here takes;
+      far = all_far version script front e s taken.after script.sections runs next.names.alone (apart_of script runnable.differ) far.far next.found (own_far version script front e taken.run taken.after trace_after read taken.count next own here takes);
       counted = counted_next script front e place taken.count runs taken.run taken.after old reads taken.there number takes.section_is (omega (arith, many, low_number)) far.counted raise;
       many = length-set reads n taken.count ∙ far.many;
     } in
-    subst (λ rs. SoFar script (front ++ e ∷ []) trace_after rs old reads_after) (sym taken.runs_are) (subst (λ cs. SoFar script (front ++ e ∷ []) trace_after (slice_set runs place taken.after) old cs) (sym taken.reads_are) after)
+    subst (λ rs. SoFar version script (front ++ e ∷ []) trace_after rs old reads_after) (sym taken.runs_are) (subst (λ cs. SoFar version script (front ++ e ∷ []) trace_after (slice_set runs place taken.after) old cs) (sym taken.reads_are) after)
 
 -- ---- the parts in a loop
 
 -- behind the whole journal the core's SCN is that of its trace
-pub scn_far : (script : Script) (journal entries : List Entry) (n scn : ℕ) (trace : List Event) (runs : List Run) (old reads : List ℕ) → SoFar script (take n journal) trace runs old reads → entries ≡ journal → length entries ≤ n
+pub scn_far : (version : Version) (script : Script) (journal entries : List Entry) (n scn : ℕ) (trace : List Event) (runs : List Run) (old reads : List ℕ) → SoFar version script (take n journal) trace runs old reads → entries ≡ journal → length entries ≤ n
     → scn ≡ (state_of trace).catalog.scn → scn ≡ (state_of (trace_of script journal)).catalog.scn
-scn_far script journal entries n scn trace runs old reads far same whole is =
+scn_far version script journal entries n scn trace runs old reads far same whole is =
     let all : length journal ≤ n = subst (λ es. length es ≤ n) same whole in
     is ∙ ap (λ t. (state_of t).catalog.scn) (far.trace_is ∙ ap (trace_of script) (take_all n journal all))
 
@@ -162,10 +165,10 @@ front_at journal entries i d same within =
 
 -- ---- the sessions that are made
 
-pub made_next : (made pushed all : List Run) (r : Run) (s : Section) (rest later : List Section) → pushed ≡ made ++ r ∷ [] → r ≡ begun s → rest ≡ s ∷ later → made ++ map begun rest ≡ all → pushed ++ map begun later ≡ all
-made_next made pushed all r s rest later push is next done =
-    ap (λ rs. rs ++ map begun later) push
-    ∙ append_assoc made (r ∷ []) (map begun later)
-    ∙ ap (λ q. made ++ q ∷ map begun later) is
-    ∙ ap (λ ss. made ++ map begun ss) (sym next)
+pub made_next : (version : Version) (made pushed all : List Run) (r : Run) (s : Section) (rest later : List Section) → pushed ≡ made ++ r ∷ [] → r ≡ begun version s → rest ≡ s ∷ later → made ++ map (begun version) rest ≡ all → pushed ++ map (begun version) later ≡ all
+made_next version made pushed all r s rest later push is next done =
+    ap (λ rs. rs ++ map (begun version) later) push
+    ∙ append_assoc made (r ∷ []) (map (begun version) later)
+    ∙ ap (λ q. made ++ q ∷ map (begun version) later) is
+    ∙ ap (λ ss. made ++ map (begun version) ss) (sym next)
     ∙ done

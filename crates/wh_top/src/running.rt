@@ -8,17 +8,23 @@ use std::snapshot::Snapshot;
 use wh_base::reads::Reads;
 use wh_base::seq::Seq;
 use wh_base::statements::{Entry, Script};
+use wh_base::values::Version;
 use wh_core::Core;
 use wh_session::Session;
 
-/// The sessions of a script, each with nothing done. An error says that memory ran out.
-pub fn sessions_of<L>(alloc: Global, script: Script) -> Result<Vec<Session<L>>, AllocError>
+/// The sessions of a script, each with nothing done, that tell their replies in this version of transcripts. An error says
+/// that memory ran out.
+pub fn sessions_of<L>(
+    alloc: Global,
+    version: Version,
+    script: Script,
+) -> Result<Vec<Session<L>>, AllocError>
     requires { IsRunnable script }
-    ensures { IfOk result (λ sessions. sessions.items ≡ map begun script.sections) }
+    ensures { IfOk result (λ sessions. sessions.items ≡ map (begun version) script.sections) }
 {
     let mut sessions = Vec::new(alloc);
     for section in script.sections.into_vec() {
-        sessions.push(Session::new(alloc, section))?;
+        sessions.push(Session::new(alloc, version, section))?;
     }
     Ok(sessions)
 }
@@ -29,6 +35,7 @@ pub fn sessions_of<L>(alloc: Global, script: Script) -> Result<Vec<Session<L>>, 
 /// A part costs a look at each session.
 pub fn take_parts<L>(
     alloc: Global,
+    version: Snapshot<Version>,
     script: Snapshot<Script>,
     sessions: &mut [Session<L>],
     journal: &Seq<Entry>,
@@ -36,9 +43,9 @@ pub fn take_parts<L>(
 ) -> Result<u64, AllocError>
     requires runnable { IsRunnable script.value }
     requires legal { is_legal script.value journal.now ≡ true }
-    requires sessions { sessions.old ≡ map begun script.value.sections }
+    requires sessions { sessions.old ≡ map (begun version.value) script.value.sections }
     requires counters { length reads.old ≡ 65 }
-    ensures far { OnOk result (AreAsFar script.value journal.now script.value.sections sessions.new) }
+    ensures far { OnOk result (AreAsFar version.value script.value journal.now script.value.sections sessions.new) }
     ensures counted { OnOk result (CountedSoFar script.value journal.now sessions.new reads.old reads.new) }
     ensures scn { IfOk result (λ n. n ≡ (state_of (trace_of script.value journal.now)).catalog.scn) }
 {

@@ -1,15 +1,17 @@
-ghost use Rattle.std.specs.Prelude.{◌≡◌, ◌++◌, ◌∷◌, [], Some, IfOk, OnOk, codes, length};
-ghost use Rattle.def_output.specs.Generator.{generated, number_line, summary};
+ghost use Rattle.std.specs.Prelude.{◌≡◌, ◌++◌, ◌∷◌, [], IfOk, OnOk, codes, length};
+ghost use Rattle.def_output.specs.Generator.{number_line, summary};
+ghost use Rattle.def_output.specs.Output.{Generating};
+ghost use Rattle.def_output.specs.Program.{Counted};
 ghost use Rattle.def_transcript.specs.Texts.{lines_text};
 ghost use Rattle.wh_session.specs.Tally.{both, tally_of};
 ghost use Rattle.wh_top.specs.Running.{command_count, total};
-ghost use Rattle.wh_top.specs.Top.{Counted};
 
 use crate::output::perform;
 use itoa::Buffer;
 use std::alloc::{AllocError, Global};
 use wh_base::reads::Reads;
 use wh_base::statements::Section;
+use wh_base::values::Version;
 use wh_generator::{generated, generated_script_runs};
 use wh_session::{Session, Tally};
 
@@ -22,13 +24,14 @@ use wh_session::{Session, Tally};
 pub fn summary<L>(alloc: Global, sales: u32, reads: &mut [Reads<L>]) -> Result<Vec<u8>, AllocError>
     requires counters { length reads.old ≡ 65 }
     ensures summary { IfOk result (λ text. text.items ≡ lines_text (summary sales)) }
-    ensures counted { OnOk result (Counted reads.old reads.new (Some (generated sales))) }
+    ensures counted { OnOk result (Counted (Generating sales) [] reads.old reads.new) }
 {
     // The law of the generated script: it does nothing, and says that the script can be run.
     generated_script_runs();
     let script = generated(alloc, sales)?;
     let commands = command_count(script.sections.as_slice())?;
-    let performed = perform(alloc, script, reads)?;
+    // The texts of the replies aren't written, so any version does.
+    let performed = perform(alloc, Version::Two, script, reads)?;
     let tally = total(performed.sessions.as_slice())?;
     let text = text_of(alloc, sales, commands, tally, performed.scn)?;
     Ok(text)

@@ -81,8 +81,8 @@ impl<'a> Cell<'a> {
         }
     }
 
-    /// The place of the two in the order of values: numbers by size, then texts by bytes, then averages as fractions and by
-    /// count, NULL last.
+    /// The place of the two in the order of values: numbers by size, then texts by bytes, then days by their numbers, then
+    /// averages as fractions and by count, NULL last.
     pub fn compare(self, other: &Value) -> Ordering
         ensures { result ≡ value_cmp (cell_value self.entry) other.now }
     {

@@ -1,11 +1,11 @@
 -- What a change of one view keeps of all views.
-use Rattle.std.proofs.Common.{◌≡◌, ◌∙◌, sym, ap, refl, subst, arith, cond, filter, length, map, not, true, false, zero, suc, Bool, ℕ, ◌+◌, ◌<◌, ◌≤◌, ◌==◌, List, [], ◌∷◌, ◌++◌, Option, None, Some, IfSome, slice_get, slice_set, slice_index_or, take, drop}
+use Rattle.std.proofs.Common.{◌≡◌, ◌∙◌, sym, ap, refl, subst, arith, cond, filter, length, not, true, false, zero, suc, Bool, ℕ, ◌+◌, ◌<◌, ◌≤◌, List, [], ◌∷◌, ◌++◌, None, Some, slice_get, slice_set, slice_index_or, take, drop}
 use Rattle.std.proofs.lemmas.Bool.Decides.{nat_tests}
 use Rattle.std.proofs.lemmas.Option.{slice_get-get_or}
 use Rattle.std.specs.Prelude.{nat_lt, position}
 use Rattle.std.specs.List.{position_or_len}
 use Rattle.wh_base.specs.Lists.{change_where}
-use Rattle.wh_view.specs.Kept.{AllKept, AreNumbered, Ascend, Kept, added, changed, is_numbered, refreshed, removed, suspended, switched, unregistered, with_change}
+use Rattle.wh_view.specs.Kept.{Ascend, Kept, is_numbered, refreshed, suspended, switched, unregistered, with_change}
 use Rattle.wh_base.specs.declared.views.ViewEntry.{ViewEntry}
 
 none_not_some : {A : Type 0} (x : A) → None ≡ Some x → ⊥

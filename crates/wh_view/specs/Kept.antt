@@ -1,6 +1,5 @@
 -- The views that a catalog keeps, each with what it stores.
-use Rattle.std.specs.Prelude.{◌==◌, ◌++◌, ◌+◌, ◌<◌, ◌≤◌, ◌∷◌, Bool, List, None, Option, Some, [], filter, is_some, not, suc, true, false, zero, ℕ}
-use Rattle.std.specs.List.{All}
+use Rattle.std.specs.Prelude.{◌==◌, ◌++◌, ◌+◌, ◌<◌, ◌≤◌, ◌∷◌, Bool, List, Option, Some, [], filter, is_some, not, suc, true, false, zero, ℕ}
 use Rattle.wh_base.specs.Lists.{change_where, same_text}
 use Rattle.wh_base.specs.declared.views.ViewDef.{ViewDef}
 use Rattle.wh_base.specs.declared.views.ViewEntry.{ViewEntry}

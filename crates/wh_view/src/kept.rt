@@ -8,6 +8,7 @@ use wh_base::seq::Seq;
 use wh_base::shared::Shared;
 use wh_base::statements::Method;
 use wh_base::tables::TableDef;
+use wh_base::tokens::Token;
 use wh_base::txt::Txt;
 use wh_base::views::{ViewDef, ViewRows};
 
@@ -82,11 +83,11 @@ impl KeptView {
         &self.def.get().tables
     }
 
-    /// The text of the query, as it was written.
-    pub fn text(&self) -> &Txt
-        ensures { result.now ≡ self.now.view.def.text }
+    /// The tokens of the query, as it was written.
+    pub fn tokens(&self) -> &Seq<Token>
+        ensures { result.now ≡ self.now.view.def.tokens }
     {
-        &self.def.get().text
+        &self.def.get().tokens
     }
 
     /// The method by which it is refreshed where no other one is asked.

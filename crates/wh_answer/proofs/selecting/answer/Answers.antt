@@ -3,7 +3,7 @@ use Rattle.def_history.specs.Catalog.{base_now}
 use Rattle.wh_answer.proofs.Chosen.{answer_is, has_view, over_now}
 use Rattle.wh_answer.proofs.Views.{few_read}
 use Rattle.wh_answer.proofs.selecting.answer.Goals as goal
-use Rattle.wh_trace.specs.Reached.{catalog_of}
+use Rattle.law_trace.specs.Reached.{catalog_of}
 
 pub answer_by-requires-clause-known : goal.answer_by-requires-clause-known
 answer_by-requires-clause-known g c =
@@ -13,7 +13,7 @@ answer_by-requires-clause-known g c =
 pub answer_by-requires-clause-there : goal.answer_by-requires-clause-there
 answer_by-requires-clause-there g c =
     has_view c.args.image.now.tables.scn c.args.image.now.tables.tables.items c.args.image.now.views c.args.asked.now c.args.query.now c.args.enabled c.as_slice.result.now
-    (c.as_slice.ensures.items ∙ c.in_ok-text.ensures) c.requires.reads_as c.requires.built c.requires.resolved c.views_answer.ensures c.in_ok-plan.plan c.in_ok-plan.ensures c.requires.known
+    c.as_slice.ensures.items c.requires.reads_as c.requires.built c.requires.resolved c.views_answer.ensures c.in_ok-plan.plan c.in_ok-plan.ensures.chosen c.requires.known
 
 pub returns-in_err-reply-clause-most : goal.returns-in_err-reply-clause-most
 returns-in_err-reply-clause-most g c =
@@ -28,7 +28,7 @@ returns-clause-reply g c = λ trace is.
     (c.known.ensures.asked trace c.args.asked.now.query c.args.query.now is
     (over_now c.args.image.now.tables.scn c.args.image.now.tables.tables.items c.args.image.now.views trace is c.args.enabled c.args.asked.now (Ok c.args.query.now) c.requires.resolved)).shown
     ∙ answer_is c.args.image.now.tables.scn c.args.image.now.tables.tables.items c.args.image.now.views c.args.asked.now c.args.query.now c.args.enabled c.as_slice.result.now
-    (c.as_slice.ensures.items ∙ c.in_ok-text.ensures) c.requires.reads_as c.requires.built c.requires.resolved c.views_answer.ensures c.in_ok-plan.plan c.in_ok-plan.ensures trace is
+    c.as_slice.ensures.items c.requires.reads_as c.requires.built c.requires.resolved c.views_answer.ensures c.in_ok-plan.plan c.in_ok-plan.ensures.chosen c.in_ok-plan.ensures.full trace is
 
 pub returns-clause-most : goal.returns-clause-most
 returns-clause-most g c =

@@ -5,6 +5,6 @@ use Rattle.wh_top.proofs.running.sessions_of.Given as goal
 
 abbrev pub invariant-loop-section : goal.invariant-loop-section
 invariant-loop-section g l = record {
-  made : l.sessions.items ++ map begun l.section-iterator.rest.items ≡ map begun l.fn.script.sections;
+  made : l.sessions.items ++ map (begun l.version) l.section-iterator.rest.items ≡ map (begun l.version) l.fn.script.sections;
   can : All CanRun l.section-iterator.rest.items;
 }

@@ -5,7 +5,7 @@ use Rattle.wh_base.specs.declared.statements.Command.TheVariants as commands
 use Rattle.def_journal.specs.Journal.{event_of}
 use Rattle.wh_check.specs.Effects.{IsOutcome, KeysLeft, Stops, read_by}
 use Rattle.wh_constraints.specs.Constraints.{AreRight}
-use Rattle.wh_core.proofs.Closing.{accepts, answers, closes}
+use Rattle.wh_core.proofs.Closing.{accepts, answers, closes, waits}
 use Rattle.wh_core.proofs.Commits.{commits, stops, tables_sized, versions_few}
 use Rattle.wh_core.proofs.catalog.Core.commit.Goals as goal
 
@@ -71,3 +71,7 @@ returns-in-Err-clause-reply g c =
 
 pub returns-in-Err-clause-raised : goal.returns-in-Err-clause-raised
 returns-in-Err-clause-raised g c = subst (λ r. c.check_block.new.reads ≡ c.args.reads.now + read_by r) c.in-Err.is c.in_ok-tables.ensures.raised
+
+pub invariant_of-self-in_err-tables : goal.invariant_of-self-in_err-tables
+invariant_of-self-in_err-tables g c =
+    waits _ _ _ _ _ _ _ _ _ _ _ c.self.invariant c.reserve.ensures.items c.in_err-tables.ensures.err c.check_block.ensures.settled (omega (arith, c.in_ok-reserve.ensures.ok))

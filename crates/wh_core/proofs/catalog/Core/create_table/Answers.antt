@@ -6,11 +6,11 @@ use Rattle.wh_base.specs.declared.statements.Statement.TheVariants as about
 use Rattle.wh_base.specs.declared.statements.TableStatement.TheVariants.{CreateTable}
 use Rattle.def_history.specs.Catalog.{names_taken}
 use Rattle.def_journal.specs.Journal.{event_of}
-use Rattle.wh_core.proofs.Closing.{accepts, answers, closes}
+use Rattle.wh_core.proofs.Closing.{accepts, answers, closes, waits}
 use Rattle.wh_core.proofs.Known.{lookups}
 use Rattle.wh_core.proofs.Tabled.{created, created_right, not_created}
 use Rattle.wh_define.specs.Made.{defined_or_refused}
-use Rattle.wh_trace.specs.Reached.{catalog_of}
+use Rattle.law_trace.specs.Reached.{catalog_of}
 use Rattle.wh_core.proofs.catalog.Core.create_table.Goals as goal
 
 pub invariant_of-self-in-Ok : goal.invariant_of-self-in-Ok
@@ -66,3 +66,12 @@ push_table-requires-clause-count g c = c.self.invariant.right.indexed.count
 
 pub push_table-requires-clause-settled : goal.push_table-requires-clause-settled
 push_table-requires-clause-settled g c = c.self.invariant.settled
+
+pub invariant_of-self-in_err-defined : goal.invariant_of-self-in_err-defined
+invariant_of-self-in_err-defined g c =
+    waits _ _ _ _ _ _ _ _ _ _ _ c.self.invariant c.reserve.ensures.items refl c.self.invariant.settled (omega (arith, c.in_ok-reserve.ensures.ok))
+
+pub invariant_of-self-in_err-push_table-in-Ok : goal.invariant_of-self-in_err-push_table-in-Ok
+invariant_of-self-in_err-push_table-in-Ok g c =
+    rw (c.push_table.ensures.scn, c.in_err-push_table-in-Ok.ensures.tables_err, c.in_err-push_table-in-Ok.ensures.keys_err)
+    (waits _ _ _ _ _ _ _ _ _ _ _ c.self.invariant c.reserve.ensures.items refl c.self.invariant.settled (omega (arith, c.in_ok-reserve.ensures.ok)))

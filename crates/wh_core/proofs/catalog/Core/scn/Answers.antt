@@ -1,4 +1,4 @@
-use Rattle.std.proofs.Common.{◌≡◌, ◌∙◌, ap, subst, sym}
+use Rattle.std.proofs.Common.{◌≡◌, ◌∙◌, subst, sym}
 use Rattle.def_journal.specs.Journal.{state_of}
 use Rattle.wh_core.proofs.catalog.Core.scn.Goals as goal
 

@@ -3,7 +3,7 @@ use Rattle.wh_base.specs.declared.statements.Command.TheVariants as commands
 use Rattle.def_journal.specs.Journal.{event_of}
 use Rattle.wh_core.proofs.Begins.{begun_core}
 use Rattle.wh_core.proofs.Closing.{accepts}
-use Rattle.wh_view_law.specs.Read.{IsRead}
+use Rattle.law_views.specs.Read.{IsRead}
 use Rattle.wh_core.proofs.catalog.Core.snapshot.Goals as goal
 
 pub invariant_of-self-2 : goal.invariant_of-self-2

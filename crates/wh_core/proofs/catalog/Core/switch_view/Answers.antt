@@ -1,4 +1,4 @@
-use Rattle.std.proofs.Common.{◌∙◌, sym, ap, subst, arith, ◌-◌}
+use Rattle.std.proofs.Common.{◌∙◌, sym, ap, refl, subst, arith, ◌-◌}
 use Rattle.std.specs.Vec.{vec_capacity, vec_len}
 use Rattle.wh_base.specs.declared.replies.Refusal.TheVariants.{NoSuchObject}
 use Rattle.wh_base.specs.declared.replies.Reply.TheVariants as reply
@@ -6,7 +6,7 @@ use Rattle.wh_base.specs.declared.statements.Command.TheVariants as commands
 use Rattle.wh_base.specs.declared.statements.Statement.TheVariants as about
 use Rattle.wh_base.specs.declared.statements.ViewStatement.TheVariants.{AlterView}
 use Rattle.def_journal.specs.Journal.{event_of}
-use Rattle.wh_core.proofs.Closing.{accepts, answers, closes}
+use Rattle.wh_core.proofs.Closing.{accepts, answers, closes, waits}
 use Rattle.wh_core.proofs.Viewed.{switches, switches_none}
 use Rattle.wh_core.specs.Kept.{IsIndexed}
 use Rattle.wh_core.specs.Put.{refusal_after}
@@ -43,3 +43,7 @@ returns-clause-reply g c =
     let accepted = accepts c.args.id _ (commands.Other (about.View (AlterView c.args.view.now))) c.requires.command c.requires.built tt in
     let after = switches _ c.args.id _ _ _ _ _ _ c.self.invariant.core c.args.view.now accepted c.in-Some.number (sym c.in-Some.ensures) in
     answers _ _ _ _ _ _ _ _ _ _ _ after c.self.view_is same (c.done.ensures ∙ ap (λ n. reply.Catalog (record { scn = n; read = 0 })) c.scn.ensures)
+
+pub invariant_of-self-in_err-name : goal.invariant_of-self-in_err-name
+invariant_of-self-in_err-name g c =
+    waits _ _ _ _ _ _ _ _ _ _ _ c.self.invariant c.reserve.ensures.items refl c.self.invariant.settled (omega (arith, c.in_ok-reserve.ensures.ok))

@@ -1,8 +1,8 @@
 use Rattle.std.proofs.Common.{◌≡◌, ◌∙◌, ◌+◌, ap, subst, sym, List, [], None}
 use Rattle.std.specs.Vec.Iter.{into_iter_items, into_iter_len}
-use Rattle.wh_session.proofs.Taking.{held_as, held_first, held_none, held_started, is_built, is_read, takes_first}
+use Rattle.wh_session.proofs.Taking.{held_as, held_first, held_none, held_started, is_built, is_over, is_read, takes_first}
 use Rattle.wh_session.specs.Held.{run_of}
-use Rattle.wh_session.specs.Run.{Run, Takes}
+use Rattle.wh_session.specs.Run.{AreOverTables, Run, Takes}
 use Rattle.wh_base.specs.Lists.{option_case}
 use Rattle.wh_base.specs.declared.statements.Event.{Event}
 use Rattle.wh_session.proofs.session.Session.run_step.Goals as goal
@@ -14,6 +14,11 @@ start-requires-clause-built g c =
 pub start-requires-clause-read : goal.start-requires-clause-read
 start-requires-clause-read g c =
     is_read _ _ _ _ _ _ (held_none (sym c.take.ensures.value ∙ c.in_default.is) c.self.invariant) c.in-Some-next.command (into_iter_items c.next.new.self) c.in-Some-next.ensures.cases.0
+
+pub start-requires-clause-over_tables : goal.start-requires-clause-over_tables
+start-requires-clause-over_tables g c =
+    is_over _ _ _ _ _ _ (held_none (sym c.take.ensures.value ∙ c.in_default.is) c.self.invariant) c.in-Some-next.command (into_iter_items c.next.new.self) c.in-Some-next.ensures.cases.0
+    c.args.core.now (subst (λ r. AreOverTables c.args.core.now r.section) (sym c.self.view_is) c.requires.over_tables)
 
 -- also after an error the commands that are left are those behind the ones that have begun
 pub invariant_of-self-in_err-self-inside : goal.invariant_of-self-in_err-self-inside

@@ -1,9 +1,0 @@
-pub mod Counts
-pub mod Repeated
-pub mod Changed
-pub mod Shown
-pub mod Keyed
-pub mod Standing
-pub mod Told
-pub mod Valued
-pub mod Related

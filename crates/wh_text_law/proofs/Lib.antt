@@ -1,7 +1,0 @@
-mod Rows
-mod Stars
-mod Later
-mod Steady
-mod Clauses
-mod Parts
-mod Answer

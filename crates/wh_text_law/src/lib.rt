@@ -1,4 +1,0 @@
-//! Why a view whose text is that of a query can answer the query.
-#![tactic(auto)]
-
-pub mod laws;
