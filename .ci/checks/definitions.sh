@@ -18,6 +18,12 @@ def names_of(path):
         found = (re.match(r'(?:abbrev |unfoldable )*pub (?:record |data )?([^\s(]\S*)(?: \(.*?\))* :', line) for line in lines)
         return [m.group(1) for m in found if m]
 
+def examples_of(path):
+    """The worked examples of a file: its public theorems. What it abbreviates are the words that they share."""
+    with open(path, encoding='utf-8') as lines:
+        found = (re.match(r'pub ([^\s(]\S*)(?: \(.*?\))* :', line) for line in lines)
+        return [m.group(1) for m in found if m]
+
 def specs_of(crate):
     """The files of a crate's definitions, by name. Lib lists the others, and Lines has no definition of its own."""
     paths = sorted(glob.glob(f'crates/{crate}/specs/**/*.antt', recursive=True))
@@ -69,7 +75,7 @@ for crate in crates:
     if crate == 'def_rows':
         rows = re.findall(r'^\| `(\w+)` \| (`[^|]*`) \|', text[crate], flags=re.M)
         said = [(file, name) for file, names in rows for name in re.findall(r'`(\w+)`', names)]
-        there = [(file, name) for file, path in specs.items() for name in names_of(path)]
+        there = [(file, name) for file, path in specs.items() for name in examples_of(path)]
         faults += [f'{crate}: the example {file}.{name} is in no row' for file, name in there if (file, name) not in said]
         faults += [f'{crate}: a row has {file}.{name}, which isn\'t there' for file, name in said if (file, name) not in there]
         faults += [f'{crate}: {file}.{name} is in two rows' for file, name in sorted(set(said)) if said.count((file, name)) > 1]

@@ -24,7 +24,7 @@ awk -v work="$work" '
     flush()
     if (replies != "") {
       printf "@setup\n%s@end\n", statements > (work "/statements.sql")
-      printf "%sjournal%s\n", replies, journal > (work "/statements.out")
+      printf "mviewdb 2\n%sjournal%s\n", replies, journal > (work "/statements.out")
     }
   }
 ' docs/language.md

@@ -1,0 +1,28 @@
+@setup
+CREATE TABLE T (D DATE, E DATE, A NUMBER, V VARCHAR2(10));
+-- A text or a number is no day, and a day is neither.
+INSERT INTO T VALUES ('2024-01-01', NULL, 1, 'x');
+INSERT INTO T VALUES (5, NULL, 1, 'x');
+INSERT INTO T VALUES (NULL, NULL, DATE '2024-01-01', 'x');
+INSERT INTO T VALUES (NULL, NULL, 1, DATE '2024-01-01');
+-- A text of length zero is NULL, also in a column of days.
+INSERT INTO T VALUES (DATE '2024-01-01', '', 1, '2024-01-01');
+-- A number counts days, also from another column.
+UPDATE T SET E = D + 31;
+UPDATE T SET E = A + 1;
+UPDATE T SET A = D + 1;
+UPDATE T SET V = D + 1;
+UPDATE T SET D = V + 1;
+UPDATE T SET D = 5;
+-- Days are compared with days.
+DELETE FROM T WHERE D = E;
+DELETE FROM T WHERE D = A;
+DELETE FROM T WHERE D IN (DATE '2024-01-01', 5);
+SELECT D, E FROM T;
+SELECT D FROM T WHERE D = V;
+SELECT D FROM T WHERE D BETWEEN DATE '2024-01-01' AND 'x';
+SELECT D FROM T WHERE V = DATE '2024-01-01';
+SELECT D FROM T WHERE D = '';
+SELECT D FROM T WHERE A < DATE '2024-01-01';
+SELECT D FROM T WHERE ROWID = DATE '2024-01-01';
+@end

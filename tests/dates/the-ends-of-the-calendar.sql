@@ -1,0 +1,22 @@
+@setup
+CREATE TABLE T (D DATE, N NUMBER NOT NULL);
+INSERT INTO T VALUES (DATE '9999-12-30', 1);
+UPDATE T SET D = D + 1;
+UPDATE T SET D = D + 1;
+-- The day is told before NULL in a later column.
+UPDATE T SET D = D + 1, N = NULL;
+UPDATE T SET N = NULL;
+UPDATE T SET D = D - 3652058;
+SELECT D FROM T;
+UPDATE T SET D = D - 1;
+UPDATE T SET D = D + 99999999999999999999999999999999999999;
+UPDATE T SET D = D - 99999999999999999999999999999999999999;
+-- NULL has no day after it.
+UPDATE T SET D = NULL;
+UPDATE T SET D = D + 1;
+SELECT D FROM T;
+-- In a block a day may leave the calendar in no statement, also where a later one would bring it back.
+UPDATE T SET D = DATE '9999-12-31';
+BEGIN; UPDATE T SET N = 2; UPDATE T SET D = D + 1; UPDATE T SET D = D - 1; COMMIT;
+SELECT D, N FROM T;
+@end
