@@ -29,7 +29,7 @@ use Rattle.law_delta.proofs.Applying.{filter_within}
 use Rattle.law_delta.proofs.Grouped.{groups_keyed}
 use Rattle.law_delta.proofs.JoinView.{filter_front, filter_turns, times_parts}
 use Rattle.law_delta.proofs.Lookups.{same_is}
-use Rattle.law_lists.proofs.SameItems.{same_column-Decides}
+use Rattle.wh_base.proofs.SameItems.{same_column-Decides}
 use Rattle.law_delta.proofs.Star.{root_rows}
 
 -- ---- tuples by the row of one table

@@ -17,7 +17,7 @@ use Rattle.def_meaning.proofs.Entries.{same_entries_same_view}
 use Rattle.wh_base.specs.declared.queries.Item.TheVariants as item
 use Rattle.law_delta.specs.Deltas.{Balanced}
 use Rattle.law_delta.specs.Moved.{IsAdded, KeysApart, Counted, agg_of_nothing, counting, found_row, group_row, moved_row, row_after, row_says, selects, value_in_row, with_key}
-use Rattle.law_lists.proofs.SameItems.{same_agg-Decides}
+use Rattle.wh_base.proofs.SameItems.{same_agg-Decides}
 use Rattle.law_delta.proofs.Moving.{AllKnown, row_moved}
 use Rattle.law_delta.proofs.Lookups.{lookups_same}
 use Rattle.law_delta.proofs.Grouped.{grouped_apart, grouped_found, same_found}

@@ -14,7 +14,7 @@ use Rattle.wh_base.specs.declared.values.Value.TheVariants.{Null}
 use Rattle.wh_base.specs.declared.columns.ColRef.{ColRef}
 use Rattle.def_meaning.specs.Meaning.{key_value}
 use Rattle.law_lists.proofs.Each.{Each, Each-at}
-use Rattle.law_lists.proofs.SameItems.{same_column_is}
+use Rattle.wh_base.proofs.SameItems.{same_column_is}
 
 -- ---- the value at the first place that passes
 

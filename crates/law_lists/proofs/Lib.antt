@@ -7,6 +7,5 @@ pub mod Counts
 pub mod Folds
 pub mod Groups
 pub mod Aggregates
-pub mod SameItems
 pub mod Columns
 pub mod Tables

@@ -14,7 +14,7 @@ use Rattle.wh_base.specs.declared.views.ViewDef.{ViewDef}
 use Rattle.def_meaning.specs.Meaning.{Grouped, agg_value, group_item, key_of, key_value}
 use Rattle.def_resolve.specs.Resolve.{item_is_grouped}
 use Rattle.law_lists.proofs.Columns.{first_value, key_value_is}
-use Rattle.law_lists.proofs.SameItems.{same_agg-Decides, same_column-Decides, same_column_is}
+use Rattle.wh_base.proofs.SameItems.{same_agg-Decides, same_column-Decides, same_column_is}
 use Rattle.law_lists.proofs.Each.{Each-from_all}
 use Rattle.law_nest.specs.Each.{Each}
 use Rattle.law_nest.specs.Placed.{item_value, placed_column}

@@ -41,7 +41,7 @@ use Rattle.def_restrictions.specs.Intervals.{bounds_meet, intervals_meet, union_
 use Rattle.def_restrictions.specs.Restrictions.{Known, check_f1, check_p1, check_p2, check_p3, moved}
 use Rattle.law_delta.proofs.Parted.{joined_filtered, refreshed_parts}
 use Rattle.std.proofs.lemmas.List.{length-map}
-use Rattle.law_lists.proofs.SameItems.{same_column-Decides}
+use Rattle.wh_base.proofs.SameItems.{same_column-Decides}
 use Rattle.law_delta.specs.Moved.{side_tuples, with_rows}
 use Rattle.law_lists.proofs.Lists.{filter-map}
 use Rattle.law_lists.proofs.Each.{filter_same}

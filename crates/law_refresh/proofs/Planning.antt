@@ -32,7 +32,7 @@ use Rattle.def_resolve.specs.Names.{Source, column_named, names_refusal, sources
 use Rattle.def_resolve.specs.Resolve.{IsStar, first_table, grouping_holds, joins_of, kinds_refusal, resolve, resolved_item, star_form, star_query, what_refusal}
 use Rattle.def_resolve.specs.Star.{Tree, star_of}
 use Rattle.def_restrictions.specs.Definition.{used_columns}
-use Rattle.law_lists.proofs.SameItems.{same_agg-Decides, same_column-Decides}
+use Rattle.wh_base.proofs.SameItems.{same_agg-Decides, same_column-Decides}
 use Rattle.law_lists.proofs.Options.{none_then, or_refuse_is, unless_is}
 use Rattle.law_lists.proofs.Numbers.{number_among}
 use Rattle.law_refresh.proofs.Logs.{def_later}

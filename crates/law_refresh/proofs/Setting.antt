@@ -33,7 +33,7 @@ use Rattle.wh_base.specs.declared.logs.LogFacts.{LogFacts}
 use Rattle.law_trace.proofs.Listed as listed
 use Rattle.law_delta.specs.Masked.{AggUsed, ConditionUsed, Each, EdgeUsed, ExprUsed, ItemUsed, UsesOnly}
 use Rattle.law_delta.specs.Moved.{with_rows}
-use Rattle.law_lists.proofs.SameItems.{same_column-Decides}
+use Rattle.wh_base.proofs.SameItems.{same_column-Decides}
 use Rattle.law_delta.proofs.Restoring.{part_logged}
 
 -- ---- the rows of the tables of a query are all that counts

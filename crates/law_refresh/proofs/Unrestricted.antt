@@ -18,7 +18,7 @@ use Rattle.def_meaning.specs.Meaning.{agg_value, key_of}
 use Rattle.def_restrictions.specs.Definition.{has_average_alone, has_extreme, is_extreme, is_insert_only, selects_agg, sum_alone, view_never_null}
 use Rattle.wh_base.specs.declared.queries.Item.TheVariants as item
 use Rattle.law_delta.specs.Moved.{Counted, selects, with_key}
-use Rattle.law_lists.proofs.SameItems.{same_agg-Decides}
+use Rattle.wh_base.proofs.SameItems.{same_agg-Decides}
 
 selects_is : (items : List Item) (a : Agg) → selects items a ≡ list_any (same_agg_by same_expr a) (flat_map item_aggs items)
 selects_is [] a = refl

@@ -36,7 +36,7 @@ use Rattle.def_rewriting.specs.Reaching.{Walk, join_key, layout, mark_missing, p
 use Rattle.def_rewriting.specs.Rollup.{computable, origin}
 use Rattle.law_lists.proofs.Each.{Each-both, Each-append, Each-of_mapped, Each-filter, Each-map, Each-of_map, Each-turn}
 use Rattle.law_lists.proofs.Lists.{no_elements}
-use Rattle.law_lists.proofs.SameItems.{same_part-Decides}
+use Rattle.wh_base.proofs.SameItems.{same_part-Decides}
 use Rattle.law_rewrite.specs.Words.{Each}
 use Rattle.law_rewrite.specs.Fine.{Declared, HasParent, KindsFine, OwnColumn, RowsFine, StarFine, with_value}
 use Rattle.law_rewrite.proofs.Answering.{Each-split}

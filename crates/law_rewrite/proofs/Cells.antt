@@ -22,7 +22,7 @@ use Rattle.def_rewriting.specs.Reaching.{Place, back_column, back_layout, item_p
 use Rattle.law_lists.proofs.Each.{Each-append, Each-of_mapped}
 use Rattle.law_lists.proofs.Lists.{list_any-map}
 use Rattle.law_lists.proofs.Columns.{first_value}
-use Rattle.law_lists.proofs.SameItems.{same_column_is}
+use Rattle.wh_base.proofs.SameItems.{same_column_is}
 use Rattle.law_rewrite.specs.Words.{Each}
 use Rattle.law_rewrite.proofs.Placing.{position-map}
 

@@ -24,7 +24,7 @@ use Rattle.def_rewriting.specs.Compatible.{join_into}
 use Rattle.def_rewriting.specs.PlanRows.{gained_columns}
 use Rattle.def_rewriting.specs.Reaching.{Place, back_by_key, back_by_level, back_layout, is_declared, layout, source_of, stands_at, view_layout}
 use Rattle.law_lists.proofs.Each.{Each-both, Each-append, Each-map}
-use Rattle.law_lists.proofs.SameItems.{same_part-Decides}
+use Rattle.wh_base.proofs.SameItems.{same_part-Decides}
 use Rattle.law_rewrite.specs.Words.{Each}
 use Rattle.law_rewrite.proofs.Envs.{Env, env_value}
 use Rattle.law_rewrite.proofs.Finding.{AtMost}

@@ -34,7 +34,7 @@ use Rattle.law_lists.proofs.Each.{Each-both, map_alike, Each-filter, Each-map, E
 use Rattle.law_lists.proofs.Counts.{SameCounts-map, SameCounts-trans}
 use Rattle.law_lists.proofs.Groups.{groups_full}
 use Rattle.law_lists.proofs.Columns.{key_value_is}
-use Rattle.law_lists.proofs.SameItems.{same_column_is}
+use Rattle.wh_base.proofs.SameItems.{same_column_is}
 use Rattle.law_lists.proofs.Aggregates.{wanted_values}
 use Rattle.law_rewrite.specs.Words.{Each}
 use Rattle.law_rewrite.specs.Fine.{KindsFine, Numbers, ProductFine, RowsFine, may_be_number}

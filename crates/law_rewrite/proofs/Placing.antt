@@ -23,7 +23,7 @@ use Rattle.def_rewriting.specs.Reaching.{item_place, plain_columns, stands_at, v
 use Rattle.def_rewriting.specs.PlanRows.{placed}
 use Rattle.law_lists.proofs.Lists.{list_any-map}
 use Rattle.law_lists.proofs.Columns.{first_value, key_value_is}
-use Rattle.law_lists.proofs.SameItems.{same_column_is}
+use Rattle.wh_base.proofs.SameItems.{same_column_is}
 use Rattle.law_lists.proofs.Each.{Each-append}
 use Rattle.law_rewrite.specs.Words.{Each}
 use Rattle.law_rewrite.proofs.Answering.{Each-split}

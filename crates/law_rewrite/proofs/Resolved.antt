@@ -45,7 +45,7 @@ use Rattle.def_restrictions.specs.Definition.{condition_column, item_columns, us
 use Rattle.def_rewriting.specs.Reaching.{plain_columns}
 use Rattle.law_lists.proofs.Each.{Each-both, Each-append, Each-of_mapped, Each-map, Each-of, Each-of_map}
 use Rattle.law_lists.proofs.Options.{none_first, none_then, or_refuse_is, unless_is, none_each}
-use Rattle.law_lists.proofs.SameItems.{same_column_is}
+use Rattle.wh_base.proofs.SameItems.{same_column_is}
 use Rattle.law_rewrite.specs.Words.{Each}
 use Rattle.law_rewrite.specs.Fine.{Declared, IsColumn, OwnColumn, StarFine}
 use Rattle.law_rewrite.proofs.Answering.{Each-split}

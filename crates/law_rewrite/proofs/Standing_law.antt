@@ -45,7 +45,7 @@ use Rattle.def_rewriting.specs.Rollup.{AveragesOf, CountsOf, GreatestOf, LeastOf
 use Rattle.law_lists.proofs.Each.{Each-both, Each-from_all, Each-from_none, Each-of_mapped, Each-map, Each-of_map}
 use Rattle.law_lists.proofs.Options.{none_where, none_first, none_each, was_none}
 use Rattle.law_lists.proofs.Columns.{position_there}
-use Rattle.law_lists.proofs.SameItems.{same_part-Decides}
+use Rattle.wh_base.proofs.SameItems.{same_part-Decides}
 use Rattle.law_lists.proofs.Numbers.{differs_turned}
 use Rattle.def_resolve.proofs.Trees.{where_is}
 use Rattle.law_rewrite.specs.Words.{Each}

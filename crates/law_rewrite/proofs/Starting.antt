@@ -26,7 +26,7 @@ use Rattle.def_rewriting.specs.Reaching.{Place, item_place, layout, plain_column
 use Rattle.law_lists.proofs.Each.{Each-both, Each-from_all, Each-filter, Each-map, Each-passes}
 use Rattle.law_lists.proofs.Counts.{one_if}
 use Rattle.law_lists.proofs.Columns.{key_value_is}
-use Rattle.law_lists.proofs.SameItems.{same_column_is}
+use Rattle.wh_base.proofs.SameItems.{same_column_is}
 use Rattle.law_rewrite.specs.Words.{Each}
 use Rattle.law_rewrite.proofs.Answering.{Each-split}
 use Rattle.law_rewrite.proofs.Fresh.{group_row}

@@ -28,7 +28,7 @@ use Rattle.law_lists.proofs.Each.{Each-both, Each-from_all, Each-append, Each-fi
 use Rattle.law_lists.proofs.Numbers.{differs_turned}
 use Rattle.law_lists.proofs.Counts.{is_positive, positive_sum, times-append, times-filter, times_agree}
 use Rattle.law_lists.proofs.Lists.{filter-map}
-use Rattle.law_lists.proofs.SameItems.{same_column_is}
+use Rattle.wh_base.proofs.SameItems.{same_column_is}
 use Rattle.law_lists.proofs.Booleans.{and_swap}
 use Rattle.law_rewrite.specs.Words.{Promised, Each}
 use Rattle.law_rewrite.proofs.Answering.{all_alike}

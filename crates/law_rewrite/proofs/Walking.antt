@@ -31,7 +31,7 @@ use Rattle.def_restrictions.specs.Definition.{selects_column}
 use Rattle.def_rewriting.specs.Compatible.{is_table_of, join_into, may_rely}
 use Rattle.def_rewriting.specs.Reaching.{Place, Walk, available, back_alone, back_by_key, back_by_level, back_by_levels, back_by_own_key, back_column, back_common, back_layout, declared_place, gains, is_declared, join_key, layout, level_back, level_serves, mark_missing, missing, source_of, stands_at, sure_keys, view_layout, walk_alone, walk_common, walk_table, wanted}
 use Rattle.law_lists.proofs.Each.{Each-both, Each-from_all, Each-from_none, Each-append, Each-filter, Each-map, Each-of_map, Each-passes, Each-unfilter}
-use Rattle.law_lists.proofs.SameItems.{same_column_is, same_part-Decides}
+use Rattle.wh_base.proofs.SameItems.{same_column_is, same_part-Decides}
 use Rattle.law_rewrite.specs.Words.{Each}
 use Rattle.law_rewrite.proofs.Envs.{Env, env_value}
 use Rattle.law_rewrite.proofs.Joins.{first_leads, has_append, has_itself, has_second}
