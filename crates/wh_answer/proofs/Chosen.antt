@@ -1,8 +1,9 @@
 -- The replies to a SELECT and to SHOW VIEW by what an image stores.
-use Rattle.std.proofs.Common.{◌≡◌, ◌∙◌, sym, ap, refl, subst, ℕ, ℤ, Bool, true, false, not, List, [], ◌∷◌, map, Option, None, Some, Ok, Err, Result}
+use Rattle.std.proofs.Common.{◌≡◌, ◌∙◌, sym, ap, refl, subst, ℕ, ℤ, Bool, not, List, [], ◌∷◌, map, Option, None, Some, Ok, Err, Result}
+use Rattle.law_lists.proofs.Options.{none_first, none_then, unless_is}
 use Rattle.std.specs.List.{find}
 use Rattle.std.specs.Prelude.{IsSome, nat_abs, option_map}
-use Rattle.wh_base.specs.Lists.{first_some, option_case, or_refuse, unless, unless_then, where_true, ◌>>=◌}
+use Rattle.wh_base.specs.Lists.{first_some, option_case, or_refuse, unless, where_true, ◌>>=◌}
 use Rattle.wh_base.specs.Tables.{defs_of}
 use Rattle.wh_base.specs.declared.columns.ColRef.{ColRef}
 use Rattle.wh_base.specs.declared.queries.ColName.{ColName}
@@ -52,29 +53,17 @@ use Rattle.law_views.specs.Read.{ReadsAs}
 
 -- ---- star forms
 
-not_refused : {A E : Type 0} (o : Option E) (r : Result A E) (x : A) → unless_then o r ≡ Ok x → (o ≡ None) × (r ≡ Ok x)
-not_refused None r x h = (refl, h)
-not_refused (Some e) r x h = cc
-
-none_first : {A : Type 0} (o : Option A) (rest : List (Option A)) → first_some (o ∷ rest) ≡ None → o ≡ None
-none_first None rest h = refl
-none_first (Some x) rest h = cc
-
 found_some : {A B E : Type 0} (o : Option A) (e : E) (f : A → Result B E) (y : B) → (or_refuse o e >>= f) ≡ Ok y → (x : A) × (f x ≡ Ok y)
 found_some (Some x) e f y h = (x, h)
 found_some None e f y h = cc
-
-was_kept : {A E : Type 0} (b : Bool) (e : E) (x y : A) → unless (where_true (not b) e) x ≡ Ok y → x ≡ y
-was_kept true e x y h = cc
-was_kept false e x y h = cc
 
 -- the refusals of a query whose star form there is don't come
 resolve_parts : (defs : List TableDef) (raw : RawQuery) (q : StarQuery) → resolve defs raw ≡ Ok q → (table_refusal defs raw ≡ None) × (star_form defs raw (sources_of defs raw) ≡ Ok q)
 resolve_parts defs raw q h =
     let sources : List Source = sources_of defs raw in
     let later : List (Option Refusal) = names_refusal sources raw ∷ kinds_refusal defs (first_table sources) (column_named sources) raw ∷ [] in
-    let parts = not_refused (first_some (table_refusal defs raw ∷ later)) (star_form defs raw sources) q h in
-    (none_first (table_refusal defs raw) later parts.0, parts.1)
+    let parts = none_then (first_some (table_refusal defs raw ∷ later)) (star_form defs raw sources) q h in
+    ((none_first (table_refusal defs raw) later parts.0).0, parts.1)
 
 -- the star form has the AS OF of the query
 as_of_kept : (defs : List TableDef) (raw : RawQuery) (q : StarQuery) → resolve defs raw ≡ Ok q → q.as_of ≡ raw.as_of
@@ -85,7 +74,7 @@ as_of_kept defs raw q h =
     let grouped : Bool = grouping_holds raw column items (map column raw.groups) in
     let found = found_some (star_of defs (joins_of column raw) (map (λ s. s.table) sources)) NotStar
     (λ tree. unless (where_true (not grouped) NotGrouped) (star_query raw column tree)) q (resolve_parts defs raw q h).1 in
-    let same : star_query raw column found.0 ≡ q = was_kept grouped NotGrouped (star_query raw column found.0) q found.1 in
+    let same : star_query raw column found.0 ≡ q = unless_is (where_true (not grouped) NotGrouped) (star_query raw column found.0) q found.1 in
     ap (λ (s : StarQuery). s.as_of) (sym same)
 
 -- without AS OF the star form over the tables of now is that of the query

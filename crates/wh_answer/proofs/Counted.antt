@@ -1,5 +1,7 @@
 -- How many rows the base plan of a query reads: each table of the query is named once.
 use Rattle.std.proofs.Common.{◌≡◌, ◌∙◌, ap, refl, arith, ℕ, zero, suc, ◌+◌, ◌*◌, ◌≤◌, Bool, true, false, cond, not, List, [], ◌∷◌, ◌++◌, length, map}
+use Rattle.std.proofs.lemmas.List.{length-map}
+use Rattle.std.proofs.lemmas.Bool.{and_parts}
 use Rattle.std.proofs.lemmas.Bool.Decides.{nat_tests}
 use Rattle.std.proofs.lemmas.List.Elements.{All-head, All-tail}
 use Rattle.std.proofs.lemmas.List.Sums.{sum_by-cons, sum_by-le-sum_by}
@@ -67,19 +69,15 @@ without_last : (ns xs : List ℕ) (n : ℕ) → without_all (ns ++ n ∷ []) xs 
 without_last [] xs n = refl
 without_last (m ∷ ns) xs n = without_last ns (without m xs) n
 
-both_true : (a b : Bool) → (a && b) ≡ true → (a ≡ true) × (b ≡ true)
-both_true true b h = (refl, h)
-both_true false b h = absurd (cc)
-
 -- joins that lead outwards reach tables that weren't listed, each once
 walk : (defs : List TableDef) (xs listed : List ℕ) (es : List Edge) → leads_outwards defs listed es ≡ true
     → sum_by (at_place xs) (map (λ e. e.to.table) es) ≤ total (without_all listed xs)
 walk defs xs listed [] h = omega arith
 walk defs xs listed (e ∷ es) h =
     let n : ℕ = e.to.table in
-    let parts = both_true (has_number listed e.from.table && (not (has_number listed n) && is_key_column defs e.to)) (leads_outwards defs (listed ++ n ∷ []) es) h in
-    let leads = both_true (has_number listed e.from.table) (not (has_number listed n) && is_key_column defs e.to) parts.0 in
-    let outside : not (has_number listed n) ≡ true = (both_true (not (has_number listed n)) (is_key_column defs e.to) leads.1).0 in
+    let parts = and_parts (has_number listed e.from.table && (not (has_number listed n) && is_key_column defs e.to)) (leads_outwards defs (listed ++ n ∷ []) es) h in
+    let leads = and_parts (has_number listed e.from.table) (not (has_number listed n) && is_key_column defs e.to) parts.0 in
+    let outside : not (has_number listed n) ≡ true = (and_parts (not (has_number listed n)) (is_key_column defs e.to) leads.1).0 in
     let here : at_place (without_all listed xs) n ≡ at_place xs n = elsewhere_all listed xs n outside in
     let taken : total (without_all listed xs) ≡ at_place (without_all listed xs) n + total (without n (without_all listed xs)) = taken_out (without_all listed xs) n in
     let left : total (without_all (listed ++ n ∷ []) xs) ≡ total (without n (without_all listed xs)) = ap total (without_last listed xs n) in
@@ -117,10 +115,6 @@ filter_few p (x ∷ xs) = by (p x) (filter_few p xs)
     by true h = omega arith
     by false h = omega arith
 
-length_map : {A B : Type 0} (f : A → B) (xs : List A) → length (map f xs) ≡ length xs
-length_map f [] = refl
-length_map f (x ∷ xs) = ap suc (length_map f xs)
-
 admitted_few : (q : StarQuery) (s : Seen) → length (admitted_rows q s) ≤ length s.rows
 admitted_few q s = by s.part_key
   where
@@ -131,7 +125,7 @@ admitted_few q s = by s.part_key
 reads_few : (q : StarQuery) (base : Base) (n : ℕ) → rows_read q (λ m. seen (table_at base m)) n ≤ at_place (row_sizes base) n
 reads_few q base n =
     let t : Table = table_at base n in
-    let here : length (seen t).rows ≡ length t.rows = length_map (row_at t) t.rows in
+    let here : length (seen t).rows ≡ length t.rows = length-map t.rows (row_at t) in
     let most : rows_read q (λ m. seen (table_at base m)) n ≤ length (seen t).rows = by (n == q.root) in
     omega (arith, most, here, size_at base n)
   where

@@ -1,5 +1,6 @@
 -- What the first part of a SELECT, a SHOW or a refresh makes of a core: it leaves the catalog.
 use Rattle.std.proofs.Common.{◌≡◌, ◌≤◌, ◌+◌, ◌∙◌, sym, ap, refl, subst, arith, ℕ, true, false, true≢false, List, [], ◌∷◌, ◌++◌, Some}
+use Rattle.law_trace.proofs.Traces.{state_push}
 use Rattle.std.specs.Prelude.{Err, Ok, Result}
 use Rattle.wh_base.specs.declared.queries.StarQuery.{StarQuery}
 use Rattle.wh_base.specs.declared.replies.Refusal.{Refusal}
@@ -20,7 +21,7 @@ use Rattle.def_journal.specs.State.{State, Step, image_of, refused, replied, ses
 use Rattle.def_journal.specs.Steps.{show_step}
 use Rattle.wh_core.proofs.Counts.{put_more}
 use Rattle.wh_core.proofs.Events.{IsAccepted, as_it_was, next_core, oldest_reached}
-use Rattle.wh_core.proofs.Known.{state_push, version_laws}
+use Rattle.wh_core.proofs.Known.{version_laws}
 use Rattle.wh_core.specs.Calls.{bearer_of, begins_of, takes_image}
 use Rattle.wh_core.specs.Kept.{IsCore, begun_count}
 use Rattle.wh_table.specs.Stored.{Stored}

@@ -1,5 +1,6 @@
 -- What a block makes of a core.
 use Rattle.std.proofs.Common.{◌≡◌, ◌≤◌, ◌+◌, ◌∙◌, sym, ap, refl, subst, arith, suc, ℕ, Bool, true, IsTrue, cond, List, [], ◌∷◌, map, ◌&&◌}
+use Rattle.std.proofs.lemmas.Bool.{and_parts}
 use Rattle.std.proofs.lemmas.List.Elements.{All-cons, All-head, All-nil, All-tail}
 use Rattle.std.specs.List.{All, filter, fold, list_all}
 use Rattle.std.specs.Prelude.{is_some, not}
@@ -22,7 +23,7 @@ use Rattle.def_journal.specs.Journal.{event_of, event_step, state_of}
 use Rattle.def_journal.specs.State.{refused, replied, with_catalog}
 use Rattle.wh_check.specs.Effects.{Makes, Stops}
 use Rattle.wh_load.specs.Sized.{is_sized_def, kind_is_sized}
-use Rattle.wh_core.proofs.Events.{After, IsAccepted, and_left, and_right, as_it_was, bounded, not_reading, oldest_reached, still_named, tells}
+use Rattle.wh_core.proofs.Events.{After, IsAccepted, as_it_was, bounded, not_reading, oldest_reached, still_named, tells}
 use Rattle.wh_core.proofs.Known.{lookups, table_changes, version_laws}
 use Rattle.wh_core.proofs.Viewed.{IsOnDemand}
 use Rattle.wh_core.specs.Calls.{bearer_of}
@@ -102,7 +103,7 @@ sized_column name Date b h = refl
 sized_columns : (cs : List ColumnDef) → list_all is_sized cs ≡ true → list_all (λ c. kind_is_sized c.kind) cs ≡ true
 sized_columns [] h = refl
 sized_columns (c ∷ cs) h =
-    (λ i. sized_column c.name c.kind c.not_null (and_left (is_sized c) _ h) i && sized_columns cs (and_right (is_sized c) _ h) i)
+    (λ i. sized_column c.name c.kind c.not_null (and_parts (is_sized c) _ h).0 i && sized_columns cs (and_parts (is_sized c) _ h).1 i)
 
 sized_defs : (tables : List Stored) → All (λ d. list_all is_sized d.columns ≡ true) (defs_of tables) → All (λ s. IsTrue (is_sized_def s.def)) tables
 sized_defs [] h = All-nil (λ (s : Stored). IsTrue (is_sized_def s.def))

@@ -1,6 +1,7 @@
 -- What is so of a trace whose commands are built, and of one event more.
-use Rattle.std.proofs.Common.{◌≡◌, ◌≤◌, ◌+◌, ◌∙◌, sym, ap, refl, subst, arith, ℕ, Bool, true, false, true≢false, List, [], ◌∷◌, ◌++◌, None, Option, Some, ◌&&◌, ◌||◌}
-use Rattle.std.proofs.lemmas.Bool.{or_left}
+use Rattle.std.proofs.Common.{◌≡◌, ◌≤◌, ◌+◌, ◌∙◌, sym, ap, refl, subst, arith, ℕ, Bool, true, false, true≢false, List, [], ◌∷◌, ◌++◌, None, Option, Some}
+use Rattle.law_trace.proofs.Traces.{state_push}
+use Rattle.std.proofs.lemmas.Bool.{and_from, and_parts, or_from, or_left}
 use Rattle.std.proofs.lemmas.List.{append-nil, append_assoc, length-append}
 use Rattle.std.proofs.lemmas.List.Elements.{All-append, All-cons, All-nil, All-weaker}
 use Rattle.std.proofs.lemmas.List.Folds.{list_any-append}
@@ -21,7 +22,7 @@ use Rattle.def_history.specs.Catalog.{Catalog}
 use Rattle.def_history.specs.History.{kept_versions}
 use Rattle.def_journal.specs.Journal.{commands_of, event_step, reply_to, state_of}
 use Rattle.def_journal.specs.State.{only_reads, refused, replied, session_of, with_catalog}
-use Rattle.wh_core.proofs.Known.{change_laws, image_laws, state_push, version_laws, view_laws}
+use Rattle.wh_core.proofs.Known.{change_laws, image_laws, version_laws, view_laws}
 use Rattle.wh_core.specs.Calls.{names_created}
 use Rattle.wh_core.specs.Kept.{IsCore, IsNamedBy, begun_count}
 use Rattle.wh_image.specs.Laws.{IsBounded}
@@ -31,29 +32,13 @@ use Rattle.law_trace.specs.Reached.{HasOpened, asks_below_zero, catalog_of, chan
 use Rattle.wh_view.specs.Kept.{AllKept, Kept}
 use Rattle.law_views.specs.Read.{IsRead}
 
-pub and_left : (a b : Bool) → (a && b) ≡ true → a ≡ true
-and_left true b e = refl
-and_left false b e = e
-
-pub and_right : (a b : Bool) → (a && b) ≡ true → b ≡ true
-and_right true b e = e
-and_right false b e = absurd (true≢false (sym e))
-
-both : (a b : Bool) → a ≡ true → b ≡ true → (a && b) ≡ true
-both true b h k = k
-both false b h k = h
-
-neither : (a b : Bool) → a ≡ false → b ≡ false → (a || b) ≡ false
-neither true b h k = h
-neither false b h k = k
-
 -- ---- one event more
 
 pub built_more : (trace : List Event) (e : Event) → commands_are_built (commands_of trace) ≡ true → command_is_built e.command ≡ true
     → commands_are_built (commands_of (trace ++ e ∷ [])) ≡ true
-built_more [] e h one = both (command_is_built e.command) true one refl
+built_more [] e h one = and_from (command_is_built e.command) true one refl
 built_more (d ∷ trace) e h one =
-    both (command_is_built d.command) _ (and_left (command_is_built d.command) _ h) (built_more trace e (and_right (command_is_built d.command) _ h) one)
+    and_from (command_is_built d.command) _ (and_parts (command_is_built d.command) _ h).0 (built_more trace e (and_parts (command_is_built d.command) _ h).1 one)
 
 -- the names of the views that were created before an event, and by it
 abbrev pub names_after : List Event → Event → List (List ℕ)
@@ -73,8 +58,8 @@ named_more names more ks h =
 
 -- each event of a trace whose commands are built has one
 pub built_each : (front : List Event) (e : Event) (rest : List Event) → commands_are_built (commands_of (front ++ e ∷ rest)) ≡ true → command_is_built e.command ≡ true
-built_each [] e rest h = and_left (command_is_built e.command) _ h
-built_each (d ∷ front) e rest h = built_each front e rest (and_right (command_is_built d.command) _ h)
+built_each [] e rest h = (and_parts (command_is_built e.command) _ h).0
+built_each (d ∷ front) e rest h = built_each front e rest (and_parts (command_is_built d.command) _ h).1
 
 -- ---- what no built command does
 
@@ -109,8 +94,8 @@ asks_none entry (commands.Submit statement) built = refl
 pub none_asks : (trace : List Event) → commands_are_built (commands_of trace) ≡ true → list_any asks_below_zero trace ≡ false
 none_asks [] h = refl
 none_asks (e ∷ trace) h =
-    neither (asks_below_zero e) (list_any asks_below_zero trace) (asks_none e.entry e.command (and_left (command_is_built e.command) _ h))
-    (none_asks trace (and_right (command_is_built e.command) _ h))
+    or_from (asks_below_zero e) (list_any asks_below_zero trace) (asks_none e.entry e.command (and_parts (command_is_built e.command) _ h).0)
+    (none_asks trace (and_parts (command_is_built e.command) _ h).1)
 
 -- so the oldest SCN that AS OF may ask for was reached
 pub oldest_reached : (trace : List Event) → commands_are_built (commands_of trace) ≡ true → (catalog_of trace).oldest ≤ (catalog_of trace).scn

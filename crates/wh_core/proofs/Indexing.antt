@@ -1,5 +1,6 @@
 -- The tables and their indexes with a table more, and without any.
 use Rattle.std.proofs.Common.{◌≡◌, ◌<◌, ◌∙◌, sym, ap, refl, subst, arith, ℕ, zero, suc, Bool, true, false, cond, List, [], ◌∷◌, ◌++◌, length, map, nat_lt, None, Option, Some}
+use Rattle.std.proofs.lemmas.Option.{none-some, same_Some}
 use Rattle.std.proofs.lemmas.List.{length-append, length-map}
 use Rattle.std.proofs.lemmas.List.Elements.{All-nil}
 use Rattle.std.specs.FinMap as fin
@@ -32,12 +33,6 @@ use Rattle.law_trace.specs.Reached.{catalog_of}
 use Rattle.law_trace.specs.Rows.{IsDefined}
 use Rattle.wh_view.specs.Kept.{AllKept}
 
-none_some : {A : Type 0} (x : A) → None ≡ Some x → ⊥
-none_some x e = cc
-
-same_some : {A : Type 0} (x y : A) → Some x ≡ Some y → x ≡ y
-same_some x y e = cc
-
 -- ---- what a push that failed leaves
 
 take_all : {A : Type 0} (xs ys : List A) → take (length xs) (xs ++ ys) ≡ xs
@@ -63,14 +58,14 @@ pub ruleset indexing = (taken_back, pushed_both)
 -- ---- a table without rows and its indexes
 
 all_like : {A B : Type 0} (y : B) (xs : List A) (k : ℕ) (m : B) → slice_get (map (λ _. y) xs) k ≡ Some m → m ≡ y
-all_like y [] k m e = absurd (none_some m e)
-all_like y (x ∷ xs) zero m e = sym (same_some y m e)
+all_like y [] k m e = absurd (none-some m e)
+all_like y (x ∷ xs) zero m e = sym (same_Some y m e)
 all_like y (x ∷ xs) (suc k) m e = all_like y xs k m e
 
 no_keys_fit : (d : TableDef) (column : ℕ) → KeyFits (begun d) column fin.empty
 no_keys_fit d column =
     record {
-      sound = λ value place there. absurd (none_some place (sym (fin.get-empty value_cmp value) ∙ there));
+      sound = λ value place there. absurd (none-some place (sym (fin.get-empty value_cmp value) ∙ there));
       tallied = λ value some. ap (λ (o : Option ℕ). cond (is_some o) 1 0) (fin.get-empty value_cmp value);
     }
 
@@ -91,16 +86,16 @@ begun_fits d =
 -- a table of those with one more is one of them, or that one
 at_pushed : (P : ℕ → Stored → Type 0) (tables : List Stored) (t : Stored) → ((n : ℕ) (s : Stored) → slice_get tables n ≡ Some s → P n s) → P (length tables) t
     → (n : ℕ) (s : Stored) → slice_get (tables ++ t ∷ []) n ≡ Some s → P n s
-at_pushed P [] t old new zero s is = subst (P 0) (same_some t s is) new
-at_pushed P [] t old new (suc n) s is = absurd (none_some s is)
+at_pushed P [] t old new zero s is = subst (P 0) (same_Some t s is) new
+at_pushed P [] t old new (suc n) s is = absurd (none-some s is)
 at_pushed P (u ∷ tables) t old new zero s is = old zero s is
 at_pushed P (u ∷ tables) t old new (suc n) s is = at_pushed (λ m. P (suc m)) tables t (λ m. old (suc m)) new n s is
 
 fit_pushed : (tables : List Stored) (all : List Indexes) (t : Stored) (j : Indexes) → length all ≡ length tables
     → ((n : ℕ) (s : Stored) (i : Indexes) → slice_get tables n ≡ Some s → slice_get all n ≡ Some i → TableFits s i) → TableFits t j
     → (n : ℕ) (s : Stored) (i : Indexes) → slice_get (tables ++ t ∷ []) n ≡ Some s → slice_get (all ++ j ∷ []) n ≡ Some i → TableFits s i
-fit_pushed [] [] t j many old new zero s i there is = subst (λ u. TableFits u i) (same_some t s there) (subst (TableFits t) (same_some j i is) new)
-fit_pushed [] [] t j many old new (suc n) s i there is = absurd (none_some s there)
+fit_pushed [] [] t j many old new zero s i there is = subst (λ u. TableFits u i) (same_Some t s there) (subst (TableFits t) (same_Some j i is) new)
+fit_pushed [] [] t j many old new (suc n) s i there is = absurd (none-some s there)
 fit_pushed [] (k ∷ all) t j many old new n s i there is = absurd (omega (arith, many))
 fit_pushed (u ∷ tables) [] t j many old new n s i there is = absurd (omega (arith, many))
 fit_pushed (u ∷ tables) (k ∷ all) t j many old new zero s i there is = old zero s i there is
@@ -120,8 +115,8 @@ placed_within : {A : Type 0} (p : A → Bool) (xs : List A) (i : ℕ) → positi
 placed_within p xs i e = by (nat_lt (position_or_len p xs) (length xs)) refl e
   where
     by : (b : Bool) → nat_lt (position_or_len p xs) (length xs) ≡ b → cond b (Some (position_or_len p xs)) None ≡ Some i → i < length xs
-    by true is e = subst (λ n. n < length xs) (same_some (position_or_len p xs) i e) (ltb-true (position_or_len p xs) (length xs) is)
-    by false is e = absurd (none_some i e)
+    by true is e = subst (λ n. n < length xs) (same_Some (position_or_len p xs) i e) (ltb-true (position_or_len p xs) (length xs) is)
+    by false is e = absurd (none-some i e)
 
 abbrev to_number : NewTable → NewForeign → ℕ → ℕ → ForeignDef
 to_number s f n to = record { column = unwrap_or (new_place s f.column) 0; table = n; to = to; rely = f.reference.rely }
@@ -130,11 +125,11 @@ refers_before : (defs : List TableDef) (s : NewTable) (f : NewForeign) (g : Fore
 refers_before defs s f g e = by (table_number defs f.reference.table) refl e
   where
     to_there : (n : ℕ) → n < length defs → (o : Option ℕ) → option_map (to_number s f n) o ≡ Some g → g.table < length defs
-    to_there n low None e = absurd (none_some g e)
-    to_there n low (Some to) e = subst (λ (h : ForeignDef). h.table < length defs) (same_some (to_number s f n to) g e) low
+    to_there n low None e = absurd (none-some g e)
+    to_there n low (Some to) e = subst (λ (h : ForeignDef). h.table < length defs) (same_Some (to_number s f n to) g e) low
 
     by : (o : Option ℕ) → table_number defs f.reference.table ≡ o → option_and_then (foreign_to defs s f) o ≡ Some g → g.table < length defs
-    by None is e = absurd (none_some g e)
+    by None is e = absurd (none-some g e)
     by (Some n) is e = to_there n (placed_within (λ d. same_text d.name f.reference.table) defs n is) (referred (def_at defs n) f.reference) e
 
 each_given : {A B : Type 0} (Q : B → Type 0) (f : A → Option B) → ((x : A) (y : B) → f x ≡ Some y → Q y) → (xs : List A) → Each Q (filter_map f xs)
@@ -151,8 +146,8 @@ refer_before defs s = each_given (λ (f : ForeignDef). f.table < length defs) (f
 -- ---- what holds of the tables of every trace
 
 each_def : (P : TableDef → Type 0) (tables : List Stored) → Each P (defs_of tables) → (n : ℕ) (s : Stored) → slice_get tables n ≡ Some s → P s.def
-each_def P [] h n s is = absurd (none_some s is)
-each_def P (t ∷ tables) h zero s is = subst (λ (u : Stored). P u.def) (same_some t s is) h.0
+each_def P [] h n s is = absurd (none-some s is)
+each_def P (t ∷ tables) h zero s is = subst (λ (u : Stored). P u.def) (same_Some t s is) h.0
 each_def P (t ∷ tables) h (suc n) s is = each_def P tables h.1 n s is
 
 -- each foreign key of a table refers to a key of a table
@@ -195,7 +190,7 @@ right_more trace scn later tables views all d right before stands =
 pub right_none : (scn : ℕ) → AreRight scn [] []
 right_none scn =
     record {
-      indexed = record { count = refl; fits = λ n s i there is. absurd (none_some s there) };
+      indexed = record { count = refl; fits = λ n s i there is. absurd (none-some s there) };
       parents = All-nil (λ (t : Table). All (λ f. is_orphaned (base_seen scn []) t f ≡ false) (enabled t.def));
-      earlier = λ n s is. absurd (none_some s is);
+      earlier = λ n s is. absurd (none-some s is);
     }

@@ -1,6 +1,7 @@
 -- What the install of a refresh makes of a core.
 use Rattle.std.proofs.Common.{◌≡◌, ◌≤◌, ◌-◌, ◌∙◌, sym, ap, refl, subst, arith, ℕ, Bool, true, false, true≢false, cond, not, List, [], ◌∷◌, ◌++◌, length, None, Option, Some, ◌==◌}
-use Rattle.std.proofs.lemmas.Bool.{eqb-true}
+use Rattle.law_trace.proofs.Traces.{state_push}
+use Rattle.std.proofs.lemmas.Bool.{and_parts, eqb-true}
 use Rattle.std.proofs.lemmas.List.Elements.{All-head, All-tail}
 use Rattle.std.specs.List.{All, find}
 use Rattle.std.specs.Option.{ForSome, IsSomeAnd}
@@ -27,8 +28,8 @@ use Rattle.def_journal.specs.State as state
 use Rattle.def_meaning.specs.Meaning.{stored}
 use Rattle.def_output.specs.Reads.{read_of}
 use Rattle.wh_core.proofs.Counts.{end_less}
-use Rattle.wh_core.proofs.Events.{After, IsAccepted, Stands, and_left, and_right, as_it_was, names_after, next_core, not_reading, oldest_reached, still_named}
-use Rattle.wh_core.proofs.Known.{install_laws, lookups, state_push, version_laws, view_changes}
+use Rattle.wh_core.proofs.Events.{After, IsAccepted, Stands, as_it_was, names_after, next_core, not_reading, oldest_reached, still_named}
+use Rattle.wh_core.proofs.Known.{install_laws, lookups, version_laws, view_changes}
 use Rattle.wh_core.proofs.Viewed.{IsOnDemand, all_changed}
 use Rattle.wh_core.specs.Calls.{Computes, HasBegun, bearer_of, install_of}
 use Rattle.wh_core.specs.Kept.{IsCore, IsNamedBy, begun_count}
@@ -87,10 +88,10 @@ module _ (trace : List Event) (id : Id) (r : RefreshView) (scn : ℕ) (tables : 
     (accepted : IsAccepted (install_of id (commands.Other (about.Refresh r)))) (b : Begun) (named : b.name ≡ r.name) where
   -- it is asked of one view, and completely
   alone : is_empty r.more ≡ true
-  alone = and_right (is_complete r.method) (is_empty r.more) accepted.built
+  alone = (and_parts (is_complete r.method) (is_empty r.more) accepted.built).1
 
   complete : r.method ≡ Some Complete
-  complete = complete_asked r.method (and_left (is_complete r.method) (is_empty r.more) accepted.built)
+  complete = complete_asked r.method (and_parts (is_complete r.method) (is_empty r.more) accepted.built).0
 
   -- the install as the session's step
   install_step : (kept_begin : state.Begun) → (session_of (state_of trace) (bearer_of id)).begun ≡ Some kept_begin

@@ -1,8 +1,4 @@
 -- The laws of the crates below that the steps rest on.
-use Rattle.std.proofs.Common.{◌≡◌, ◌∷◌, ◌++◌, List, [], ℕ}
-use Rattle.wh_base.specs.declared.statements.Event.{Event}
-use Rattle.def_journal.specs.Journal.{state_after, state_of}
-use Rattle.def_journal.specs.State.{Session, State, session_of, with_session}
 use Rattle.wh_image.proofs.Lookup as looking
 use Rattle.wh_image.proofs.Tabling as tabling
 use Rattle.wh_image.proofs.Viewing as viewing
@@ -12,7 +8,6 @@ use Rattle.law_trace.proofs.Installing as installing
 use Rattle.law_trace.proofs.Pointing as pointing
 use Rattle.law_trace.proofs.Preceding as preceding
 use Rattle.law_trace.proofs.Rowing as rowing
-use Rattle.law_trace.proofs.Seated as seated
 use Rattle.law_trace.proofs.Traces as traces
 use Rattle.law_trace.proofs.Versions as versions
 use Rattle.law_trace.specs.Laws.{ChangeLaws, ImageLaws, InstallLaws, RowLaws, SessionLaws, VersionLaws, ViewLaws}
@@ -44,14 +39,5 @@ view_laws = pointing.view_laws
 pub row_laws : RowLaws
 row_laws = rowing.row_laws
 
-pub state_push : (trace : List Event) (e : Event) → state_of (trace ++ e ∷ []) ≡ state_after (state_of trace) e
-state_push = traces.state_push
-
 pub session_laws : SessionLaws
 session_laws = traces.session_laws
-
-pub own_number : (s : State) (n : ℕ) → (session_of s n).number ≡ n
-own_number = seated.own_number
-
-pub put_own : (s : State) (y : Session) (n : ℕ) → y.number ≡ n → session_of (with_session s y) n ≡ y
-put_own = seated.put_own

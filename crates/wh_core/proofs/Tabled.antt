@@ -1,5 +1,7 @@
 -- What a CREATE TABLE makes of a core.
-use Rattle.std.proofs.Common.{◌≡◌, ◌≤◌, ◌<◌, ◌+◌, ◌∙◌, sym, ap, refl, subst, arith, suc, ℕ, true, true≢false, cond, List, [], ◌∷◌, ◌++◌, length, None, Option, Some, is_none}
+use Rattle.std.proofs.Common.{◌≡◌, ◌≤◌, ◌<◌, ◌+◌, ◌∙◌, sym, ap, refl, subst, arith, suc, ℕ, cond, List, [], ◌∷◌, ◌++◌, length, None, Option, Some, is_none}
+use Rattle.law_lists.proofs.Options.{was_none}
+use Rattle.std.proofs.lemmas.Bool.{and_parts}
 use Rattle.std.proofs.lemmas.List.{length-map}
 use Rattle.std.specs.List.{All}
 use Rattle.std.specs.Prelude.{Err, Ok}
@@ -21,7 +23,7 @@ use Rattle.def_journal.specs.Journal.{event_of, event_step, state_of}
 use Rattle.def_journal.specs.State.{done_or_refused, refused, replied, with_base, with_catalog}
 use Rattle.def_journal.specs.Statements.{create_table, unread}
 use Rattle.wh_constraints.specs.Constraints.{AreRight}
-use Rattle.wh_core.proofs.Events.{After, IsAccepted, and_left, bounded, not_reading, refuses, replies, still_named}
+use Rattle.wh_core.proofs.Events.{After, IsAccepted, bounded, not_reading, refuses, replies, still_named}
 use Rattle.wh_core.proofs.Indexing.{refer_before, right_more}
 use Rattle.wh_core.proofs.Known.{lookups, table_changes}
 use Rattle.wh_core.specs.Calls.{bearer_of}
@@ -36,10 +38,6 @@ use Rattle.wh_table.specs.Stored as stored
 use Rattle.law_trace.proofs.Listed.{Each}
 use Rattle.law_trace.specs.Reached.{catalog_of}
 use Rattle.wh_view.specs.Kept.{AllKept}
-
-is_nothing : {A : Type 0} (o : Option A) → is_none o ≡ true → o ≡ None
-is_nothing None h = refl
-is_nothing (Some x) h = absurd (true≢false (sym h))
 
 -- ---- the outcome
 
@@ -79,7 +77,7 @@ module _ (trace : List Event) (id : Id) (t : NewTable) (scn : ℕ) (tables : Lis
       (scn + 1) (tables ++ stored.begun made.def ∷ []) views
       (record {
         stands = subst (λ d. StandsFor (scn + 1) (tables ++ stored.begun d ∷ []) views left) of_def
-            (table_changes.creates scn tables views c t core.image.stands (bounded trace) settled (is_nothing t.partitioning (and_left (is_none t.partitioning) _ accepted.built)));
+            (table_changes.creates scn tables views c t core.image.stands (bounded trace) settled (was_none t.partitioning (and_parts (is_none t.partitioning) _ accepted.built).0));
         on_demand = core.on_demand;
         named = still_named trace (event_of id (commands.Other (about.Table (CreateTable t)))) scn tables views kept begun room core accepted;
         scn_one = omega arith;

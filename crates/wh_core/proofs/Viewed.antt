@@ -1,6 +1,6 @@
 -- What a statement on a view makes of a core.
 use Rattle.std.proofs.Common.{◌≡◌, ◌+◌, ◌∙◌, sym, ap, refl, subst, arith, suc, ℕ, Bool, true, false, true≢false, cond, not, List, [], ◌∷◌, ◌++◌, length, map, None, Option, Some, nat_le, ◌==◌, ◌||◌}
-use Rattle.std.proofs.lemmas.Bool.{or_left, or_parts, or_right}
+use Rattle.std.proofs.lemmas.Bool.{and_parts, not-true, or_left, or_parts, or_right}
 use Rattle.std.proofs.lemmas.List.{length-map}
 use Rattle.std.proofs.lemmas.List.Elements.{All-append, All-cons, All-filter, All-head, All-map, All-nil, All-tail, All-weaker}
 use Rattle.std.proofs.lemmas.List.Folds.{list_any-append}
@@ -42,7 +42,7 @@ use Rattle.def_meaning.specs.Meaning.{stored}
 use Rattle.def_meaning.specs.Ranges.{base_reads}
 use Rattle.def_resolve.specs.Names.{lone_name}
 use Rattle.def_resolve.specs.Resolve.{resolve}
-use Rattle.wh_core.proofs.Events.{After, IsAccepted, Stands, and_left, and_right, names_after, not_reading, refuses, replies, still_named}
+use Rattle.wh_core.proofs.Events.{After, IsAccepted, Stands, names_after, not_reading, refuses, replies, still_named}
 use Rattle.wh_core.proofs.Known.{lookups, view_changes}
 use Rattle.wh_core.specs.Asked.{asked_def, asked_star, number_of, view_refusal}
 use Rattle.wh_core.specs.Calls.{IsOverTables, bearer_of, names_created}
@@ -205,10 +205,6 @@ not_fast Complete h = refl
 not_fast Fast h = absurd (true≢false (sym h))
 not_fast Partition h = absurd (true≢false (sym h))
 
-is_false : (b : Bool) → not b ≡ true → b ≡ false
-is_false true h = sym h
-is_false false h = refl
-
 -- no view bears a name that isn't among these
 none_named : (names : List (List ℕ)) (name : List ℕ) (ks : List Kept) → has_text names name ≡ false → All (IsNamedBy names) ks → find (is_named name) ks ≡ None
 none_named names name [] absent h = refl
@@ -275,10 +271,10 @@ module _ (trace : List Event) (id : Id) (s : NewView) (scn : ℕ) (tables : List
   star_done : (q : StarQuery) → of_star q ≡ Ok (with_view (catalog_of trace) (new_view (catalog_of trace) s q), build_reads (catalog_of trace) (new_view (catalog_of trace) s q))
   unfolding of_star
   star_done q = ap (λ b. unless (cond b (option_map (λ r. FastRefused (restricted (defs_now (catalog_of trace)) r)) (form_of_view (catalog_of trace) (new_view (catalog_of trace) s q))) None) (with_view (catalog_of trace) (new_view (catalog_of trace) s q), build_reads (catalog_of trace) (new_view (catalog_of trace) s q)))
-      (not_fast s.method (and_left (method_is_built s.method) _ accepted.built))
+      (not_fast s.method (and_parts (method_is_built s.method) _ accepted.built).0)
 
   on_demand : s.on_commit ≡ false
-  on_demand = is_false s.on_commit (and_left (not s.on_commit) _ (and_right (method_is_built s.method) _ accepted.built))
+  on_demand = not-true s.on_commit (and_parts (not s.on_commit) _ (and_parts (method_is_built s.method) _ accepted.built).1).0
 
   pub made_view : (q : StarQuery) → Ok q ≡ asked_star tables views s → (entries : List ViewEntry) (read : ℕ) → entries ≡ cond s.deferred [] (stored q (base_now (catalog_of trace)))
       → read ≡ cond s.deferred 0 (base_reads q (base_now (catalog_of trace)))

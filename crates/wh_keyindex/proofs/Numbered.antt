@@ -1,5 +1,6 @@
 -- An index of a foreign key after each call: places with the numbers of their values, and how often each value is there.
-use Rattle.std.proofs.Common.{◌≡◌, ◌∙◌, sym, ap, subst, refl, Bool, true, false, cond, List, [], ◌∷◌, ◌+◌, ◌-◌, ◌<◌, ◌≤◌, Some, None, Option, ℕ, zero, suc, length, map, nat_eq, nat_lt, not, ◌&&◌, ◌||◌, option_map, unwrap_or, slice_get, arith, if◌then◌else◌}
+use Rattle.std.proofs.Common.{◌≡◌, ◌∙◌, sym, ap, subst, refl, Bool, true, false, cond, List, [], ◌∷◌, ◌+◌, ◌-◌, ◌<◌, ◌≤◌, Some, None, Option, ℕ, zero, suc, length, map, nat_eq, nat_lt, not, ◌&&◌, ◌||◌, option_map, unwrap_or, slice_get, arith}
+use Rattle.std.proofs.Math.Bool.{and-false}
 use Rattle.std.specs.Cmp.{nat_cmp_total, eq_by_cmp_equiv}
 use Rattle.std.specs.List.{IsDistinct, position_or_len}
 use Rattle.std.specs.Map.{lookup, keys_of}
@@ -328,10 +329,6 @@ below_next bound place = grind (arith, Decides-ltb place (bound + 1), Decides-lt
 none_below : (place : ℕ) → nat_lt place 0 ≡ false
 none_below place = grind (arith, Decides-ltb place 0)
 
-and_false : (b : Bool) → (b && false) ≡ false
-and_false true = refl
-and_false false = refl
-
 pub next_gone : (gone : List Bool) (bound : ℕ) (values : Values) → is_marked gone bound ≡ true → fin.remove (left_from gone bound values) bound ≡ left_from gone (bound + 1) values
 next_gone gone bound values marked =
     fin.same_map nat_cmp_total fin.nat_cmp-IsAntisymmetric _ _
@@ -354,7 +351,7 @@ next_left gone bound values unmarked = ap (fin.retain_keys values) (λ i q. (by 
     by : (q : ℕ) (b : Bool) → nat_eq q bound ≡ b → not (marked_below gone bound q) ≡ not ((b || nat_lt q bound) && is_marked gone q)
     by q true e =
         let m : is_marked gone q ≡ false = ap (is_marked gone) (one_number q bound e) ∙ unmarked in
-        ap (λ x. not (nat_lt q bound && x)) m ∙ ap not (and_false (nat_lt q bound)) ∙ sym (ap not m)
+        ap (λ x. not (nat_lt q bound && x)) m ∙ ap not (and-false (nat_lt q bound)) ∙ sym (ap not m)
     by q false e = refl
 
 pub all_left : (gone : List Bool) (values : Values) → left_from gone 0 values ≡ values

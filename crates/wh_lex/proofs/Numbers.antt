@@ -1,5 +1,6 @@
 -- The size of numbers.
-use Rattle.std.proofs.Common.{◌≡◌, ℕ, ◌+◌, ◌*◌, ◌<◌, ◌≤◌, suc, zero, List, [], ◌∷◌, length, refl, ap, sym, ◌∙◌, arith, Option, Some, None, cond, true, false, Bool, ◌&&◌, Ok, subst, length-drop}
+use Rattle.std.proofs.Common.{◌≡◌, ℕ, ◌+◌, ◌*◌, ◌<◌, ◌≤◌, suc, zero, List, [], ◌∷◌, length, refl, ap, sym, ◌∙◌, arith, Option, Some, None, cond, true, false, Bool, Ok, subst, length-drop}
+use Rattle.std.proofs.lemmas.Bool.{and_parts}
 use Rattle.std.specs.Cmp.Derive.{both_true}
 use Rattle.wh_lex.proofs.Spans.{tokens_of-spans}
 use Rattle.std.proofs.Math.Nat.{mul-le-mul_right, pow-le-pow_right, pow-succ', mul_assoc}
@@ -33,22 +34,14 @@ larger n d k m h less =
     let same : (n + 1) * 10 ^ suc k ≡ (n + 1) * 10 * 10 ^ k = ap (λ p. (n + 1) * p) (pow-succ' 10 k) ∙ sym (mul_assoc (n + 1) 10 (10 ^ k)) in
     rw same (omega (arith, less, more))
 
-all_first : (p q : Bool) → (p && q) ≡ true → p ≡ true
-all_first true q h = refl
-all_first false q h = h
-
-all_later : (p q : Bool) → (p && q) ≡ true → q ≡ true
-all_later true q h = h
-all_later false q h = cc
-
 worth_more : (n b : ℕ) (bs : List ℕ) → b - 48 ≤ 9 → Worth (n * 10 + (b - 48)) bs → is_ascii_digit b ≡ true → Worth n (b ∷ bs)
 worth_more n b bs small w digit = record { number = w.number; is = rw digit w.is; below = larger n (b - 48) (length bs) w.number small w.below }
 
 worth : (n : ℕ) (ds : List ℕ) → list_all is_ascii_digit ds ≡ true → Worth n ds
 worth n [] h = record { number = n; is = refl; below = omega arith }
 worth n (b ∷ bs) h =
-    let digit : is_ascii_digit b ≡ true = all_first (is_ascii_digit b) (list_all is_ascii_digit bs) h in
-    worth_more n b bs (grind (arith, nat_tests, digit)) (worth (n * 10 + (b - 48)) bs (all_later (is_ascii_digit b) (list_all is_ascii_digit bs) h)) digit
+    let digit : is_ascii_digit b ≡ true = (and_parts (is_ascii_digit b) (list_all is_ascii_digit bs) h).0 in
+    worth_more n b bs (grind (arith, nat_tests, digit)) (worth (n * 10 + (b - 48)) bs (and_parts (is_ascii_digit b) (list_all is_ascii_digit bs) h).1) digit
 
 taken_first : (b : ℕ) (bytes : List ℕ) (first : Bool) → is_ascii_digit b ≡ first → list_all is_ascii_digit (take (digits_len bytes) bytes) ≡ true → list_all is_ascii_digit (take (length (cond (is_ascii_digit b) (b ∷ take_while is_ascii_digit bytes) [])) (b ∷ bytes)) ≡ true
 taken_first b bytes true e h = rw e (both_true e h)

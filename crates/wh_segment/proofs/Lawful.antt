@@ -1,5 +1,6 @@
 -- The laws of a segment.
 use Rattle.std.proofs.Common.{◌≡◌, ◌∙◌, sym, ap, refl, Bool, true, false, cond, List, [], ◌∷◌, ◌++◌, ◌<◌, ◌≤◌, Some, None, Option, ℕ, zero, suc, map, nat_le, nat_lt, slice_get, slice_set, is_some, unwrap_or, ◌&&◌, arith}
+use Rattle.std.proofs.Math.Bool.{and-false, and-true}
 use Rattle.std.proofs.lemmas.Bool.{leb-true, leb-false, le-leb, lt-leb}
 use Rattle.wh_base.specs.Lists.{option_case, where_true}
 use Rattle.wh_base.specs.declared.tables.RowAt.{RowAt}
@@ -7,14 +8,6 @@ use Rattle.wh_base.specs.declared.values.Value.{Value}
 use Rattle.wh_segment.specs.Laws.{Laws}
 use Rattle.wh_segment.specs.Versions.{born_at, ended, ended_at, is_live, is_past, is_visible, lives_on, purged, removed, row_at, rows_at, visible_at}
 use Rattle.wh_segment.specs.declared.version.Version.{Version}
-
-and_true : (b : Bool) → (b && true) ≡ b
-and_true true = refl
-and_true false = refl
-
-and_false : (b : Bool) → (b && false) ≡ false
-and_false true = refl
-and_false false = refl
 
 -- a row stands where its version is visible
 row_there : (at : ℕ) (v : Version) → is_visible at v ≡ is_some (row_at at v)
@@ -33,7 +26,7 @@ visible_law (v ∷ vs) (suc place) at = visible_law vs place at
 
 appends_law : (vs : List Version) (scn rowid part : ℕ) (values : List Value) (at : ℕ)
     → rows_at at (vs ++ born_at scn rowid part values ∷ []) ≡ rows_at at vs ++ where_true (nat_le scn at) (record { rowid = rowid; mark = part; values = values }) ∷ []
-appends_law [] scn rowid part values at = ap (λ b. where_true b (record { rowid = rowid; mark = part; values = values }) ∷ []) (and_true (nat_le scn at))
+appends_law [] scn rowid part values at = ap (λ b. where_true b (record { rowid = rowid; mark = part; values = values }) ∷ []) (and-true (nat_le scn at))
 appends_law (v ∷ vs) scn rowid part values at = ap (λ rows. row_at at v ∷ rows) (appends_law vs scn rowid part values at)
 
 not_yet : (scn at : ℕ) (b : Bool) → nat_le scn at ≡ b → nat_lt at scn ≡ cond b false true
@@ -50,7 +43,7 @@ row_ended scn at v live = by v.died v.values live (nat_le scn at) refl
     by None None f b e = cc
     by None (Some ws) f true e =
         ap (λ c. where_true (nat_le v.born at && c) (record { rowid = v.rowid; mark = v.part; values = ws })) (not_yet scn at true e)
-        ∙ ap (λ c. where_true c (record { rowid = v.rowid; mark = v.part; values = ws })) (and_false (nat_le v.born at))
+        ∙ ap (λ c. where_true c (record { rowid = v.rowid; mark = v.part; values = ws })) (and-false (nat_le v.born at))
     by None (Some ws) f false e = ap (λ c. where_true (nat_le v.born at && c) (record { rowid = v.rowid; mark = v.part; values = ws })) (not_yet scn at false e)
 
 set_law : (vs : List Version) (place scn at : ℕ) (v : Version) → slice_get vs place ≡ Some v → is_live v ≡ true
@@ -83,7 +76,7 @@ row_purged to at v h = by v.died v.values
         let dead : d ≤ to = leb-true d to e in
         let past : nat_lt at d ≡ false = lt-leb (suc at) d (omega arith) in
         sym (ap (λ c. where_true (nat_le v.born at && c) (record { rowid = v.rowid; mark = v.part; values = ws })) past
-        ∙ ap (λ c. where_true c (record { rowid = v.rowid; mark = v.part; values = ws })) (and_false (nat_le v.born at)))
+        ∙ ap (λ c. where_true c (record { rowid = v.rowid; mark = v.part; values = ws })) (and-false (nat_le v.born at)))
     gone d ws false e = refl
 
     by : (died : Option ℕ) (values : Option (List Value))

@@ -1,7 +1,9 @@
 -- The replies of statements whose first part takes an image.
-use Rattle.std.proofs.Common.{◌≡◌, ◌∙◌, ◌||◌, ◌&&◌, ap, refl, sym, Bool, true, false, true≢false, List, [], ◌∷◌, Err, None, Ok, Option, Result, Some, ℕ}
+use Rattle.std.proofs.Common.{◌≡◌, ◌∙◌, ap, refl, sym, true, false, true≢false, List, [], ◌∷◌, Err, None, Ok, Option, Result, Some, ℕ}
+use Rattle.law_lists.proofs.Options.{was_none}
+use Rattle.std.proofs.lemmas.Bool.{and_parts, or_from}
 use Rattle.std.specs.List.{list_any}
-use Rattle.std.specs.Prelude.{is_none, unwrap_or}
+use Rattle.std.specs.Prelude.{unwrap_or}
 use Rattle.wh_base.specs.declared.replies.Reply.{Reply}
 use Rattle.wh_base.specs.declared.statements.Asked.{Asked}
 use Rattle.wh_base.specs.declared.statements.Command.{Command}
@@ -26,18 +28,6 @@ use Rattle.wh_core.specs.Calls.{bearer_of}
 use Rattle.law_trace.specs.Reached.{catalog_of}
 use Rattle.law_views.specs.Laws.{SessionsArePlain, is_setting}
 
-pub and_left : (a b : Bool) → (a && b) ≡ true → a ≡ true
-and_left true b e = refl
-and_left false b e = e
-
-pub and_right : (a b : Bool) → (a && b) ≡ true → b ≡ true
-and_right true b e = e
-and_right false b e = absurd (true≢false (sym e))
-
-pub neither : (a b : Bool) → a ≡ false → b ≡ false → (a || b) ≡ false
-neither true b h k = h
-neither false b h k = k
-
 -- ---- no command of a form that is built sets anything
 
 sets_nothing : (entry : Entry) (k : Command) → command_is_built k ≡ true → is_setting (record { entry = entry; command = k }) ≡ false
@@ -49,8 +39,8 @@ sets_nothing entry (commands.Submit s) built = absurd (true≢false (sym built))
 pub none_sets : (trace : List Event) → commands_are_built (commands_of trace) ≡ true → list_any is_setting trace ≡ false
 none_sets [] built = refl
 none_sets (e ∷ trace) built =
-    neither (is_setting e) (list_any is_setting trace) (sets_nothing e.entry e.command (and_left (command_is_built e.command) _ built))
-    (none_sets trace (and_right (command_is_built e.command) _ built))
+    or_from (is_setting e) (list_any is_setting trace) (sets_nothing e.entry e.command (and_parts (command_is_built e.command) _ built).0)
+    (none_sets trace (and_parts (command_is_built e.command) _ built).1)
 
 -- ---- so the session is as it began
 
@@ -91,10 +81,6 @@ unread_of c (Ok v) = refl
 pub shows_unread : (trace : List Event) (name : List ℕ) (r : Reply) → r ≡ shown_view (catalog_of trace) name → read_of r ≡ 0
 shows_unread trace name r is = ap read_of is ∙ unread_of (catalog_of trace) (the_view (catalog_of trace) name)
 
-none_of : {A : Type 0} (o : Option A) → is_none o ≡ true → o ≡ None
-none_of None h = refl
-none_of (Some x) h = absurd (true≢false (sym h))
-
 -- a query that is built has no AS OF
 pub asks_now : (k : Command) (s : Statement) (a : Asked) → k ≡ commands.Other s → s ≡ about.Select a → command_is_built k ≡ true → a.query.as_of ≡ None
-asks_now k s a command statement built = none_of a.query.as_of (sym (ap command_is_built (command ∙ ap commands.Other statement)) ∙ built)
+asks_now k s a command statement built = was_none a.query.as_of (sym (ap command_is_built (command ∙ ap commands.Other statement)) ∙ built)

@@ -1,6 +1,6 @@
 -- No session of a script of forms that are built creates a view over a view.
 use Rattle.std.proofs.Common.{◌≡◌, ◌∙◌, sym, refl, ℕ, suc, zero, ◌-◌, ◌==◌, ◌&&◌, ◌||◌, Bool, true, false, true≢false, cond, not, List, [], ◌∷◌, ◌++◌, flat_map, find, slice_get, Some}
-use Rattle.std.proofs.lemmas.Bool.{or_left, or_parts, or_right}
+use Rattle.std.proofs.lemmas.Bool.{and_parts, or_from, or_left, or_parts, or_right}
 use Rattle.std.proofs.lemmas.List.Concat.{flat_map-append}
 use Rattle.std.proofs.lemmas.List.Elements.{All-from_recursion}
 use Rattle.std.proofs.lemmas.List.Folds.{list_any-append}
@@ -16,7 +16,6 @@ use Rattle.def_built.specs.Forms.{is_built}
 use Rattle.def_built.specs.declared.forms.Form.TheVariants as forms
 use Rattle.def_journal.specs.Journal.{command_of, commands_of, no_command, trace_of}
 use Rattle.wh_core.specs.Calls.{IsOverTables, names_created}
-use Rattle.wh_session.proofs.Replying.{and_left, and_right, neither}
 use Rattle.wh_session.specs.Run.{AreOverTables}
 
 -- ---- the names of the views that are created
@@ -59,7 +58,7 @@ absent : (script : Script) (n : List ℕ) → has_text (names_created (commands_
 absent script n none [] = refl
 absent script n none (e ∷ es) =
     list_any-append (same_text n) (created_by (command_of script e)) (names_created (commands_of (trace_of script es)))
-    ∙ neither (has_text (created_by (command_of script e)) n) _ (by (has_text (created_by (command_of script e)) n) refl) (absent script n none es)
+    ∙ or_from (has_text (created_by (command_of script e)) n) _ (by (has_text (created_by (command_of script e)) n) refl) (absent script n none es)
   where
     by : (b : Bool) → has_text (created_by (command_of script e)) n ≡ b → b ≡ false
     by true is = absurd (true≢false (sym (in_sections script.sections e.session (e.command - 1) n is) ∙ none))
@@ -79,7 +78,7 @@ module _ (script : Script) (front : List Entry) where
   none_among [] h = refl
   none_among (n ∷ names) h =
       let parts = or_parts (has_text all n) (list_any (has_text all) names) h in
-      neither _ _ (absent script n parts.0 front) (none_among names parts.1)
+      or_from _ _ (absent script n parts.0 front) (none_among names parts.1)
 
   each_command : (cs : List Command) → list_any (has_text all) (flat_map created_over cs) ≡ false → AllByRecursion Over cs
   each_command [] h = tt
@@ -99,7 +98,7 @@ module _ (script : Script) (front : List Entry) where
   -- no session creates a view over one that was created in its trace
   pub over_tables : script_is_built script ≡ true → All (AreOverTables (trace_of script front)) script.sections
   over_tables built =
-      let views : views_are_built script.sections ≡ true = and_right (sections_are_built script.sections) _ (and_left (sections_are_built script.sections && views_are_built script.sections) _ built) in
+      let views : views_are_built script.sections ≡ true = (and_parts (sections_are_built script.sections) _ (and_parts (sections_are_built script.sections && views_are_built script.sections) _ built).0).1 in
       All-from_recursion (AreOverTables (trace_of script front)) script.sections (each_section script.sections (by (nests script.sections) views))
     where
       by : (b : Bool) → (not b || is_built forms.Nested) ≡ true → b ≡ false

@@ -1,5 +1,6 @@
 -- Sections whose numbers differ.
-use Rattle.std.proofs.Common.{◌≡◌, ◌∙◌, ap, refl, arith, ℕ, suc, ◌+◌, ◌<◌, ◌≤◌, ◌==◌, ◌||◌, Bool, true, false, cond, List, [], ◌∷◌, map, Some, None}
+use Rattle.std.proofs.Common.{Bool, List, None, Some, [], ap, arith, cond, false, map, refl, suc, sym, true, ℕ, ◌+◌, ◌<◌, ◌==◌, ◌||◌, ◌∙◌, ◌∷◌, ◌≡◌, ◌≤◌}
+use Rattle.std.proofs.lemmas.Option.{none-some}
 use Rattle.std.specs.List.{AllByRecursion, AllPairs, list_any}
 use Rattle.std.proofs.lemmas.Bool.{ne_eqb, or_parts}
 use Rattle.wh_base.specs.Lists.{repeated_after}
@@ -24,9 +25,6 @@ same_number m n = m == n
 abbrev numbers : List Section → List ℕ
 numbers ss = map (λ s. s.session) ss
 
-none_not_some : {A : Type 0} (x : A) → Some x ≡ None → ⊥
-none_not_some x e = cc
-
 -- ---- from 'no number stands twice'
 
 -- those that come are not among those that were seen
@@ -38,7 +36,7 @@ unseen seen (s ∷ ss) h = by (list_any (same_number s.session) seen) refl h (un
     weaker t none = (or_parts (t.session == s.session) (list_any (same_number t.session) seen) none).1
 
     by : (b : Bool) → list_any (same_number s.session) seen ≡ b → cond b (Some s.session) (repeated_after same_number (s.session ∷ seen) (numbers ss)) ≡ None → (repeated_after same_number (s.session ∷ seen) (numbers ss) ≡ None → AllByRecursion (λ t. list_any (same_number t.session) (s.session ∷ seen) ≡ false) ss) → AllByRecursion (λ t. list_any (same_number t.session) seen ≡ false) (s ∷ ss)
-    by true is twice more = absurd (none_not_some s.session twice)
+    by true is twice more = absurd (none-some s.session (sym twice))
     by false is rest more = (is, each_weaker (λ t. list_any (same_number t.session) (s.session ∷ seen) ≡ false) (λ t. list_any (same_number t.session) seen ≡ false) weaker ss (more rest))
 
 apart_after : (seen : List ℕ) (ss : List Section) → repeated_after same_number seen (numbers ss) ≡ None → AreApart ss
@@ -49,7 +47,7 @@ apart_after seen (s ∷ ss) h = by (list_any (same_number s.session) seen) h (ap
     other t none = (or_parts (t.session == s.session) (list_any (same_number t.session) seen) none).0
 
     by : (b : Bool) → cond b (Some s.session) (repeated_after same_number (s.session ∷ seen) (numbers ss)) ≡ None → (repeated_after same_number (s.session ∷ seen) (numbers ss) ≡ None → AreApart ss) → AreApart (s ∷ ss)
-    by true twice more = absurd (none_not_some s.session twice)
+    by true twice more = absurd (none-some s.session (sym twice))
     by false rest more = (each_weaker (λ t. list_any (same_number t.session) (s.session ∷ seen) ≡ false) (λ t. (t.session == s.session) ≡ false) other ss (unseen (s.session ∷ seen) ss rest), more rest)
 
 pub apart_of : (script : Script) → number_twice (session_numbers script) ≡ None → AreApart script.sections

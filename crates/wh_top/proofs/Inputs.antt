@@ -1,5 +1,6 @@
 -- What is known of the bytes in which a script was found, or a fault.
 use Rattle.std.proofs.Common.{◌≡◌, sym, ap, subst, refl, ℕ, ◌<◌, ◌≤◌, IfSome, List, length, Option, Some, None, Ok, Err, false}
+use Rattle.std.proofs.lemmas.Option.{same_Some}
 use Rattle.std.specs.Prelude.{IsOkAnd, IsSome, not}
 use Rattle.std.proofs.lemmas.Bool.{le-ltb, lt-ltb}
 use Rattle.wh_base.specs.declared.statements.BadScript.{BadScript}
@@ -34,10 +35,10 @@ IsRead r script place = r ≡ Ok (script, place)
 
 -- there is such a place
 place_of_script : (r : Outcome) (script : Script) → script_in r ≡ Some script → (place : ℕ) × IsRead r script place
-place_of_script (Ok p) script is = (p.1, found (some_is is))
+place_of_script (Ok p) script is = (p.1, found (same_Some is))
   where
-    some_is : Some p.0 ≡ Some script → p.0 ≡ script
-    some_is e = cc
+    same_Some : Some p.0 ≡ Some script → p.0 ≡ script
+    same_Some e = cc
 
     found : p.0 ≡ script → IsRead (Ok p) script p.1
     found same = subst (λ s. IsRead (Ok p) s p.1) same refl

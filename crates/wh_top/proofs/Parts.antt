@@ -1,5 +1,6 @@
 -- A part more of a session, and what it leaves of the others.
 use Rattle.std.proofs.Common.{◌≡◌, ◌∙◌, sym, ap, subst, refl, arith, ℕ, suc, zero, ◌+◌, ◌-◌, ◌==◌, ◌||◌, Bool, true, false, cond, List, [], ◌∷◌, ◌++◌, length, drop, find, flat_map, slice_get, Some, None}
+use Rattle.std.proofs.lemmas.Option.{same_Some}
 use Rattle.std.specs.Prelude.{count_by, slice_set}
 use Rattle.std.proofs.lemmas.Bool.{eq-eqb, eqb-true, eqb-false, ne_eqb}
 use Rattle.std.proofs.lemmas.List.{append-nil, append_assoc, map-append, length-append}
@@ -94,16 +95,13 @@ others_far version script front e (s ∷ ss) (r ∷ rs) alone others far =
 
 -- ---- the session's own part
 
-some_is : {A : Type 0} (x y : A) → Some x ≡ Some y → x ≡ y
-some_is x y e = cc
-
 none_is_some : {A B : Type 0} (x : A) → None ≡ Some x → B
 none_is_some x e = cc
 
 drop_next : (xs : List Entry) (n : ℕ) (e : Entry) → slice_get xs n ≡ Some e → drop n xs ≡ e ∷ drop (suc n) xs
 drop_next [] zero e is = none_is_some e is
 drop_next [] (suc n) e is = none_is_some e is
-drop_next (x ∷ xs) zero e is = ap (λ y. y ∷ xs) (some_is x e is)
+drop_next (x ∷ xs) zero e is = ap (λ y. y ∷ xs) (same_Some x e is)
 drop_next (x ∷ xs) (suc n) e is = drop_next xs n e is
 
 first_is : (x y : Entry) (xs ys : List Entry) → x ∷ xs ≡ y ∷ ys → x ≡ y
@@ -125,7 +123,7 @@ event_is version script front e r after trace_after read read_after next own far
     let parts = sym takes.next ∙ left_next version script front e r next own far in
     let entry : takes.entry ≡ e = first_is takes.entry e after.left (drop (suc (length (of_session e.session front))) (section_entries next.section)) parts in
     let found : Some takes.command ≡ Some next.names.command = sym takes.names ∙ ap (λ s. slice_get s.commands (takes.entry.command - 1)) far.section_is ∙ ap (λ x. slice_get next.section.commands (x.command - 1)) entry ∙ next.names.at in
-    let command : takes.command ≡ command_of script e = some_is takes.command next.names.command found ∙ sym next.command_is in
+    let command : takes.command ≡ command_of script e = same_Some takes.command next.names.command found ∙ sym next.command_is in
     sym (ap (λ x. record { entry = x; command = takes.command }) entry ∙ ap (λ c. record { entry = e; command = c }) command)
 
 pub trace_is : (version : Version) (script : Script) (front : List Entry) (e : Entry) (r after : Run) (trace_after : List Event) (read read_after : ℕ) (next : IsNext script front e) → next.section.session ≡ e.session → IsAsFar version script front next.section r → Takes r after (trace_of script front) trace_after read read_after → trace_after ≡ trace_of script (front ++ e ∷ [])
@@ -181,7 +179,7 @@ run_found version script front n s (t ∷ ss) (r ∷ rs) far found = by (t.sessi
     test = ap (λ u. u.session == n) far.0.section_is
 
     by : (b : Bool) → (t.session == n) ≡ b → cond b (Some t) (find (λ u. u.session == n) ss) ≡ Some s → (find (λ u. u.session == n) ss ≡ Some s → (q : Run) × (slice_get rs (place_of n rs) ≡ Some q) × IsAsFar version script front s q) → (q : Run) × (slice_get (r ∷ rs) (place_of n (r ∷ rs)) ≡ Some q) × IsAsFar version script front s q
-    by true is here later = (r, ap (λ b. slice_get (r ∷ rs) (cond b 0 (suc (place_of n rs)))) (test ∙ is), subst (λ u. IsAsFar version script front u r) (some_is t s here) far.0)
+    by true is here later = (r, ap (λ b. slice_get (r ∷ rs) (cond b 0 (suc (place_of n rs)))) (test ∙ is), subst (λ u. IsAsFar version script front u r) (same_Some t s here) far.0)
     by false is here later =
         let rest = later here in
         (rest.0, ap (λ b. slice_get (r ∷ rs) (cond b 0 (suc (place_of n rs)))) (test ∙ is) ∙ rest.1, rest.2)
@@ -192,7 +190,7 @@ found_own n s [] found = none_is_some s found
 found_own n s (t ∷ ss) found = by (t.session == n) refl found (found_own n s ss)
   where
     by : (b : Bool) → (t.session == n) ≡ b → cond b (Some t) (find (λ u. u.session == n) ss) ≡ Some s → (find (λ u. u.session == n) ss ≡ Some s → s.session ≡ n) → s.session ≡ n
-    by true is here later = sym (ap (λ u. u.session) (some_is t s here)) ∙ eqb-true t.session n is
+    by true is here later = sym (ap (λ u. u.session) (same_Some t s here)) ∙ eqb-true t.session n is
     by false is here later = later here
 
 -- it alone has gone on
@@ -211,7 +209,7 @@ all_far version script front e s after (t ∷ ss) (r ∷ rs) alone apart far fou
     by true is here later =
         let place : place_of n (r ∷ rs) ≡ 0 = ap (λ b. cond b 0 (suc (place_of n rs))) (test ∙ is) in
         let others : AreOthers n ss = subst (λ m. AreOthers m ss) (eqb-true t.session n is) apart.0 in
-        let both : AreAsFar version script (front ++ e ∷ []) (t ∷ ss) (after ∷ rs) = (subst (λ u. IsAsFar version script (front ++ e ∷ []) u after) (sym (some_is t s here)) own, others_far version script front e ss rs alone others far.1) in
+        let both : AreAsFar version script (front ++ e ∷ []) (t ∷ ss) (after ∷ rs) = (subst (λ u. IsAsFar version script (front ++ e ∷ []) u after) (sym (same_Some t s here)) own, others_far version script front e ss rs alone others far.1) in
         subst (λ k. AreAsFar version script (front ++ e ∷ []) (t ∷ ss) (slice_set (r ∷ rs) k after)) (sym place) both
     by false is here later =
         let place : place_of n (r ∷ rs) ≡ suc (place_of n rs) = ap (λ b. cond b 0 (suc (place_of n rs))) (test ∙ is) in
