@@ -1,5 +1,5 @@
 -- An index of a foreign key after each call: places with the numbers of their values, and how often each value is there.
-use Rattle.std.proofs.Common.{◌≡◌, ◌∙◌, sym, ap, subst, refl, Bool, true, false, cond, List, [], ◌∷◌, ◌+◌, ◌-◌, ◌<◌, ◌≤◌, Some, None, Option, ℕ, zero, suc, length, map, nat_eq, nat_lt, not, ◌&&◌, ◌||◌, option_map, unwrap_or, slice_get, arith}
+use Rattle.std.proofs.Common.{◌≡◌, ◌∙◌, sym, ap, subst, refl, Bool, true, false, cond, List, [], ◌∷◌, ◌+◌, ◌-◌, ◌<◌, ◌≤◌, Some, None, Option, ℕ, zero, suc, length, map, nat_eq, nat_lt, not, ◌&&◌, ◌||◌, option_map, unwrap_or, slice_get, arith, if◌then◌else◌}
 use Rattle.std.proofs.Math.Bool.{and-false}
 use Rattle.std.specs.Cmp.{nat_cmp_total, eq_by_cmp_equiv}
 use Rattle.std.specs.List.{IsDistinct, position_or_len}
