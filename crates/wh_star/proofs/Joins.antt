@@ -60,36 +60,13 @@ completed-done indexes tables tuple edges at h = rw (drop_of_length-le edges h) 
 
 pub ruleset completing = (completed-more, completed-done)
 
--- a tuple has a row for each table
-pub completed-length : (indexes : List Entries) (tables : List ℕ) (tuple : List RowAt) (edges : List Edge) (whole : List RowAt) → completed_by indexes tables tuple edges ≡ Some whole → length whole ≡ length tuple + length edges
-completed-length indexes tables tuple [] whole e = let same : tuple ≡ whole = cc in omega (arith, ap length same)
-completed-length [] tables tuple (e ∷ es) whole f = cc
-completed-length (i ∷ is) tables tuple (e ∷ es) whole f = by (row_under i (column_value tables tuple e.from)) f (λ r. completed-length is tables (tuple ++ r ∷ []) es whole)
-  where
-    by : (o : Option RowAt) → option_case o None (λ r. completed_by is tables (tuple ++ r ∷ []) es) ≡ Some whole
-        → ((r : RowAt) → completed_by is tables (tuple ++ r ∷ []) es ≡ Some whole → length whole ≡ length (tuple ++ r ∷ []) + length es) → length whole ≡ length tuple + suc (length es)
-    by None g rest = cc
-    by (Some r) g rest = omega (arith, rest r g, length-append tuple (r ∷ []))
-
-pub completed-width : (indexes : List Entries) (tables : List ℕ) (root : RowAt) (edges : List Edge) (whole : List RowAt) → completed_by indexes tables (root ∷ []) edges ≡ Some whole → length whole ≡ 1 + length edges
-completed-width indexes tables root edges whole e = completed-length indexes tables (root ∷ []) edges whole e
-
 pub tuple-none : (q : StarQuery) (indexes : List Entries) (root : RowAt) → completed_by indexes q.tables (root ∷ []) q.edges ≡ None → tuples_from q indexes (root ∷ []) ≡ []
 tuple-none q indexes root e = rw e refl
 
 pub tuple-some : (q : StarQuery) (indexes : List Entries) (root : RowAt) (tuple : List RowAt) → completed_by indexes q.tables (root ∷ []) q.edges ≡ Some tuple → tuples_from q indexes (root ∷ []) ≡ cond (conditions_true (column_value q.tables tuple) q.conditions) (tuple ∷ []) []
 tuple-some q indexes root tuple e = rw e refl
 
-pub ruleset finding = (completed-width, tuple-none, tuple-some)
-
--- the tuple that was found comes last
-pub tuple-added : {A : Type 0} (found : Bool) (done more : List A) (tuple : A) → more ≡ cond found (tuple ∷ []) [] → found ≡ true → done ++ more ≡ done ++ tuple ∷ []
-tuple-added found done more tuple e h = ap (λ ts. done ++ ts) (e ∙ ap (λ b. cond b (tuple ∷ []) []) h)
-
-pub tuple-left : {A : Type 0} (found : Bool) (done more : List A) (tuple : A) → more ≡ cond found (tuple ∷ []) [] → found ≡ false → done ++ more ≡ done
-tuple-left found done more tuple e h = ap (λ ts. done ++ ts) (e ∙ ap (λ b. cond b (tuple ∷ []) []) h) ∙ append-nil done
-
-pub ruleset adding = (tuple-added, tuple-left, append-nil)
+pub ruleset finding = (tuple-none, tuple-some)
 
 pub tuples-more : (q : StarQuery) (indexes : List Entries) (roots : List RowAt) (at : ℕ) (d : RowAt) → at < length roots → tuples_from q indexes (drop at roots) ≡ tuples_from q indexes (get_or roots at d ∷ []) ++ tuples_from q indexes (drop (at + 1) roots)
 tuples-more q indexes roots at d h =
@@ -101,4 +78,13 @@ tuples-more q indexes roots at d h =
 pub tuples-done : (q : StarQuery) (indexes : List Entries) (roots : List RowAt) (at : ℕ) → length roots ≤ at → tuples_from q indexes (drop at roots) ≡ []
 tuples-done q indexes roots at h = rw (drop_of_length-le roots h) refl
 
-pub ruleset joining = (tuples-more, tuples-done, append_assoc, append-nil)
+-- the next row of the root has this tuple, or none
+pub tuples-next : (q : StarQuery) (indexes : List Entries) (roots : List RowAt) (at : ℕ) (d : RowAt) (found : Bool) (tuple : List RowAt) → at < length roots
+    → tuples_from q indexes (get_or roots at d ∷ []) ≡ cond found (tuple ∷ []) [] → tuples_from q indexes (drop at roots) ≡ cond found (tuple ∷ tuples_from q indexes (drop (at + 1) roots)) (tuples_from q indexes (drop (at + 1) roots))
+tuples-next q indexes roots at d found tuple h e = tuples-more q indexes roots at d h ∙ ap (λ ts. ts ++ tuples_from q indexes (drop (at + 1) roots)) e ∙ by found
+  where
+    by : (b : Bool) → cond b (tuple ∷ []) [] ++ tuples_from q indexes (drop (at + 1) roots) ≡ cond b (tuple ∷ tuples_from q indexes (drop (at + 1) roots)) (tuples_from q indexes (drop (at + 1) roots))
+    by true = refl
+    by false = refl
+
+pub ruleset joining = (tuples-next, tuples-done)

@@ -1,7 +1,8 @@
 ghost use Rattle.std.specs.List.{All};
-ghost use Rattle.std.specs.Prelude.{◌≡◌, ◌+◌, ◌<◌, ◌≤◌, ◌∷◌, [], ◌++◌, ◌^◌, IfOk, OnOk, Some, None, cond, length, true};
+ghost use Rattle.std.specs.Prelude.{◌≡◌, ◌+◌, ◌<◌, ◌≤◌, ◌∷◌, [], ◌^◌, IfOk, OnOk, Some, None, cond, drop, length};
 ghost use Rattle.def_meaning.specs.Joined.{column_value, conditions_true, joined_over};
 ghost use Rattle.def_meaning.specs.Ranges.{admitted_parts, reads_over};
+ghost use Rattle.wh_base.specs.Lists.{option_case};
 ghost use Rattle.wh_base.specs.Tables.{rows_shown};
 ghost use Rattle.wh_star.specs.Found.{HaveKeys, IsJoinTree};
 ghost use Rattle.wh_star.specs.Marked.{CanPrune};
@@ -11,13 +12,14 @@ use crate::key_index::KeyIndex;
 use crate::pruning::query_range;
 use crate::scan::{read_table, sort_by_rowid};
 use std::alloc::{AllocError, Global};
+use std::marker::Model;
 use wh_base::columns::{ColPart, ColRef};
 use wh_base::queries::{Condition, Edge, StarQuery};
 use wh_base::reads::Reads;
 use wh_base::rows_of::RowsOf;
 use wh_base::tables::Part;
 use wh_base::values::Value;
-use wh_tuple::{TupleRow, Tuples, cell_of, condition_holds};
+use wh_tuple::{TupleRow, TupleSource, cell_of, condition_holds};
 
 // The numbers of the partitions of the root that the conditions admit, where this is the place of its partition key.
 #[tactic(auto, using(crate::proofs::Admitted::parts))]
@@ -171,8 +173,7 @@ fn find_tuple<'a>(
     tuple: &mut Vec<TupleRow<'a>>,
 ) -> Result<bool, AllocError>
     requires { length indexes.now ≡ length query.now.edges }
-    ensures tuple { IfOk result (λ found. tuples_from query.now indexes.now (root.now ∷ []) ≡ cond found (tuple.new.items ∷ []) []) }
-    ensures width { IfOk result (λ found. found ≡ true → length tuple.new.items ≡ 1 + length query.now.edges) }
+    ensures { IfOk result (λ found. tuples_from query.now indexes.now (root.now ∷ []) ≡ cond found (tuple.new.items ∷ []) []) }
 {
     let tables = query.tables.as_slice();
     tuple.clear();
@@ -183,43 +184,61 @@ fn find_tuple<'a>(
     Ok(conditions_hold(tables, tuple.as_slice(), query.conditions.as_slice()))
 }
 
-// One more row of the root: its tuple comes last, if there is one.
-#[tactic(auto, using(crate::proofs::Joins::adding))]
-fn add_tuple<'a>(
-    query: &StarQuery,
-    indexes: &[KeyIndex<'a>],
-    root: &TupleRow<'a>,
-    tuple: &mut Vec<TupleRow<'a>>,
-    tuples: &mut Tuples<'a>,
-) -> Result<(), AllocError>
-    requires indexes { length indexes.now ≡ length query.now.edges }
-    requires width { tuples.old.width ≡ 1 + length query.now.edges }
-    ensures { OnOk result (tuples.new ≡ record { width = tuples.old.width; tuples = tuples.old.tuples ++ tuples_from query.now indexes.now (root.now ∷ []) }) }
-{
-    if find_tuple(query, indexes, root, tuple)? {
-        tuples.push(tuple.as_slice())?;
-    }
-    Ok(())
-}
-
-// The tuples from these rows of the root.
+// Goes on from a place among these rows of the root to the next one that has a tuple, makes that, and gives the place behind the
+// row; none where no further row has one.
 #[tactic(auto, using(crate::proofs::Joins::joining))]
-fn join_rows<'a>(
-    alloc: Global,
+fn next_tuple<'a>(
     query: &StarQuery,
     indexes: &[KeyIndex<'a>],
     roots: &[TupleRow<'a>],
-) -> Result<Tuples<'a>, AllocError>
-    requires indexes { length indexes.now ≡ length query.now.edges }
-    requires tables { length query.now.tables ≡ 1 + length query.now.edges }
-    ensures { IfOk result (λ tuples. tuples ≡ record { width = length query.now.tables; tuples = tuples_from query.now indexes.now roots.now }) }
+    from: usize,
+    tuple: &mut Vec<TupleRow<'a>>,
+) -> Result<Option<usize>, AllocError>
+    requires { length indexes.now ≡ length query.now.edges }
+    ensures { IfOk result (λ place. tuples_from query.now indexes.now (drop from roots.now) ≡ option_case place [] (λ n. tuple.new.items ∷ tuples_from query.now indexes.now (drop n roots.now))) }
 {
-    let mut tuples = Tuples::new(alloc, query.tables.len());
-    let mut tuple = Vec::with_capacity(alloc, query.tables.len())?;
-    for root in roots {
-        add_tuple(query, indexes, root, &mut tuple, &mut tuples)?;
+    for at in from..roots.len() {
+        if find_tuple(query, indexes, &roots[at], tuple)? {
+            return Ok(Some(at + 1));
+        }
     }
-    Ok(tuples)
+    Ok(None)
+}
+
+/// The tuples of a star query, found one after another. Contracts see those that are still to come.
+#[derive(Drop)]
+pub struct Joining<'a> {
+    query: &'a StarQuery,
+    indexes: Vec<KeyIndex<'a>>,
+    roots: Vec<TupleRow<'a>>,
+    next: usize,
+}
+
+impl<'a> Model for Joining<'a> {
+    ghost use Rattle.std.specs.Prelude.{◌≡◌, List, drop, length};
+    ghost use Rattle.wh_base.specs.declared.tables.RowAt.{RowAt};
+    ghost use Rattle.wh_star.specs.Lookups.{tuples_from};
+
+    ghost Value = { List (List RowAt) };
+
+    ghost view = { λ j. tuples_from j.query.now j.indexes.items (drop j.next j.roots.items) };
+
+    ghost invariant = { λ j. length j.indexes.items ≡ length j.query.now.edges };
+}
+
+impl<'a> TupleSource<'a> for Joining<'a> {
+    ghost left = { λ j. j };
+
+    fn next(&mut self, tuple: &mut Vec<TupleRow<'a>>) -> Result<bool, AllocError> {
+        let indexes = self.indexes.as_slice();
+        match next_tuple(self.query, indexes, self.roots.as_slice(), self.next, tuple)? {
+            Some(next) => {
+                self.next = next;
+                Ok(true)
+            }
+            None => Ok(false),
+        }
+    }
 }
 
 /// The tuples of a star query over a store: for each row of the root's admitted partitions, by ascending rowid, the row of each
@@ -229,16 +248,16 @@ fn join_rows<'a>(
 /// of the root's admitted partitions and each row of every other table is read once. An error says that memory ran out.
 pub fn joined<'a, L, R: RowsOf<L>>(
     alloc: Global,
-    query: &StarQuery,
+    query: &'a StarQuery,
     rows: &'a R,
     reads: &mut Reads<L>,
-) -> Result<Tuples<'a>, AllocError>
+) -> Result<Joining<'a>, AllocError>
     requires tree { IsJoinTree query.now }
     requires tables { All (λ n. n < length (R.tables rows.now)) query.now.tables }
     requires keys { HaveKeys query.now.edges (rows_shown (R.tables rows.now)) }
     requires room { reads.old ≤ 2 ^ 63 }
-    ensures tuples { IfOk result (λ tuples. tuples ≡ record { width = length query.now.tables; tuples = joined_over query.now (rows_seen query.now (seen_in (R.tables rows.now) (R.keys rows.now) (R.partitions rows.now))) }) }
-    ensures all { CanPrune query.now (seen_in (R.tables rows.now) (R.keys rows.now) (R.partitions rows.now)) → IfOk result (λ tuples. tuples.tuples ≡ joined_over query.now (rows_shown (R.tables rows.now))) }
+    ensures tuples { IfOk result (λ tuples. tuples ≡ joined_over query.now (rows_seen query.now (seen_in (R.tables rows.now) (R.keys rows.now) (R.partitions rows.now)))) }
+    ensures all { CanPrune query.now (seen_in (R.tables rows.now) (R.keys rows.now) (R.partitions rows.now)) → IfOk result (λ tuples. tuples ≡ joined_over query.now (rows_shown (R.tables rows.now))) }
     ensures raised { OnOk result (reads.new ≡ reads.old + reads_over query.now (seen_in (R.tables rows.now) (R.keys rows.now) (R.partitions rows.now))) }
     ensures least { reads.old ≤ reads.new }
     ensures most { reads.new ≤ reads.old + reads_over query.now (seen_in (R.tables rows.now) (R.keys rows.now) (R.partitions rows.now)) }
@@ -246,6 +265,10 @@ pub fn joined<'a, L, R: RowsOf<L>>(
     let indexes = read_indexes(alloc, query.edges.as_slice(), rows, reads)?;
     let mut roots = read_root(alloc, query, rows, reads)?;
     sort_by_rowid(&mut roots)?;
-    let tuples = join_rows(alloc, query, indexes.as_slice(), roots.as_slice())?;
-    Ok(tuples)
+    Ok(Joining {
+        query,
+        indexes,
+        roots,
+        next: 0,
+    })
 }

@@ -1,4 +1,3 @@
 pub mod Cells
-pub mod Chunks
 pub mod Found
 pub mod Small

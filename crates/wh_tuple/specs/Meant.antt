@@ -1,6 +1,6 @@
 -- What is kept of tuples and of their values, and what it stands for.
 use Rattle.std.specs.List.{list_all}
-use Rattle.std.specs.Prelude.{Bool, IsTrue, List, None, Option, Some, [], cond, drop, nat_lt, suc, take, true, zero, ℕ, ℤ, ◌&&◌, ◌==◌, ◌∷◌}
+use Rattle.std.specs.Prelude.{Bool, IsTrue, List, None, Option, Some, [], cond, nat_lt, true, ℕ, ℤ, ◌&&◌, ◌==◌, ◌∷◌}
 use Rattle.wh_base.specs.Values.{is_small, number_limit}
 use Rattle.wh_base.specs.declared.columns.Expr.{Expr}
 use Rattle.wh_base.specs.declared.columns.Expr.TheVariants.{Lit}
@@ -26,16 +26,6 @@ abbrev pub row_found : List ℕ → List RowAt → ℕ → Option RowAt
 row_found [] rows table = None
 row_found (n ∷ ns) [] table = None
 row_found (n ∷ ns) (r ∷ rs) table = cond (n == table) (Some r) (row_found ns rs table)
-
--- so many lists of this length, one after another
-abbrev pub chunks : {A : Type 0} → ℕ → ℕ → List A → List (List A)
-chunks zero width xs = []
-chunks (suc n) width xs = take width xs ∷ chunks n width (drop width xs)
-
--- tuples with so many rows each
-pub record Tupled : Type 0 where
-  pub width : ℕ
-  pub tuples : List (List RowAt)
 
 -- ---- numbers below 10^15 in size, so that products and sums stay within 128 bits
 

@@ -8,7 +8,7 @@ ghost use Rattle.wh_base.specs.declared.values.Op.TheVariants.{Eq};
 ghost use Rattle.wh_tuple.specs.Meant.{IsSmallTuple, cell_value, row_found};
 
 use crate::cell::Cell;
-use crate::tuples::TupleRow;
+use crate::row::TupleRow;
 use wh_base::columns::{ColPart, ColRef, Expr};
 use wh_base::queries::{Condition, Edge};
 use wh_base::values::{Op, Value};

@@ -4,10 +4,10 @@
 
 mod cell;
 mod columns;
+mod row;
 mod source;
-mod tuples;
 
 pub use cell::Cell;
 pub use columns::{cell_in, cell_of, condition_holds, edge_holds, expr_cell, is_one_of};
+pub use row::TupleRow;
 pub use source::TupleSource;
-pub use tuples::{TupleRow, Tuples};

@@ -1,7 +1,7 @@
 ghost use Rattle.std.specs.Prelude.{◌≡◌, ◌∷◌, [], List, IfOk, cond};
 ghost use Rattle.wh_base.specs.declared.tables.RowAt.{RowAt};
 
-use crate::tuples::TupleRow;
+use crate::row::TupleRow;
 use std::alloc::AllocError;
 
 /// Tuples that come one after another, so that no list of them is kept. Contracts see those that are still to come.

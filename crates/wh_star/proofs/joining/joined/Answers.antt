@@ -39,29 +39,15 @@ returns-in_err-sort_by_rowid-clause-most g c =
     all-most (g.R.RowsOf.tables c.args.rows.now) (g.R.RowsOf.keys c.args.rows.now) (g.R.RowsOf.partitions c.args.rows.now) c.args.query.now c.requires.tree
     c.as_slice.result.now c.as_slice.ensures.items c.args.reads.now c.read_indexes.new.reads c.read_root.new.reads c.in_ok-indexes.ensures.raised c.in_ok-roots.ensures.most
 
-pub join_rows-requires-clause-indexes : goal.join_rows-requires-clause-indexes
-join_rows-requires-clause-indexes g c =
-    ap length (c.as_slice-2.ensures.value ∙ c.in_ok-indexes.ensures.indexes)
-    ∙ length-map c.as_slice.result.now (λ (e : Edge). indexed e.to.part (far_rows (g.R.RowsOf.tables c.args.rows.now) e))
-    ∙ ap length c.as_slice.ensures.items
-
-pub join_rows-requires-clause-tables : goal.join_rows-requires-clause-tables
-join_rows-requires-clause-tables g c = tables-length c.args.query.now c.requires.tree
-
-pub returns-in_err-tuples-clause-most : goal.returns-in_err-tuples-clause-most
-returns-in_err-tuples-clause-most g c =
-    all-most (g.R.RowsOf.tables c.args.rows.now) (g.R.RowsOf.keys c.args.rows.now) (g.R.RowsOf.partitions c.args.rows.now) c.args.query.now c.requires.tree
-    c.as_slice.result.now c.as_slice.ensures.items c.args.reads.now c.read_indexes.new.reads c.read_root.new.reads c.in_ok-indexes.ensures.raised c.in_ok-roots.ensures.most
-
 pub returns-clause-tuples : goal.returns-clause-tuples
 returns-clause-tuples g c =
     let tables = g.R.RowsOf.tables c.args.rows.now in
     let same = joined-is tables (g.R.RowsOf.keys c.args.rows.now) (g.R.RowsOf.partitions c.args.rows.now) c.args.query.now
-    c.as_slice-2.result.now c.in_ok-roots.roots.items c.as_slice-3.result.now c.requires.tree c.requires.keys
-    (c.as_slice-2.ensures.value ∙ c.in_ok-indexes.ensures.indexes ∙ ap (indexes_of tables) c.as_slice.ensures.items)
+    c.in_ok-indexes.indexes.items c.in_ok-roots.roots.items c.sort_by_rowid.new.rows.items c.requires.tree c.requires.keys
+    (c.in_ok-indexes.ensures.indexes ∙ ap (indexes_of tables) c.as_slice.ensures.items)
     c.in_ok-roots.ensures.rows
-    (c.as_slice-3.ensures.value ∙ c.in_ok-sort_by_rowid.ensures) in
-    c.in_ok-tuples.ensures ∙ (λ i. record { width = length c.args.query.now.tables; tuples = same i })
+    c.in_ok-sort_by_rowid.ensures in
+    same
 
 pub returns-clause-all : goal.returns-clause-all
 returns-clause-all g c = λ can.
@@ -69,11 +55,11 @@ returns-clause-all g c = λ can.
     let keys = g.R.RowsOf.keys c.args.rows.now in
     let partitions = g.R.RowsOf.partitions c.args.rows.now in
     let same = joined-is tables keys partitions c.args.query.now
-    c.as_slice-2.result.now c.in_ok-roots.roots.items c.as_slice-3.result.now c.requires.tree c.requires.keys
-    (c.as_slice-2.ensures.value ∙ c.in_ok-indexes.ensures.indexes ∙ ap (indexes_of tables) c.as_slice.ensures.items)
+    c.in_ok-indexes.indexes.items c.in_ok-roots.roots.items c.sort_by_rowid.new.rows.items c.requires.tree c.requires.keys
+    (c.in_ok-indexes.ensures.indexes ∙ ap (indexes_of tables) c.as_slice.ensures.items)
     c.in_ok-roots.ensures.rows
-    (c.as_slice-3.ensures.value ∙ c.in_ok-sort_by_rowid.ensures) in
-    ap (λ t. t.tuples) c.in_ok-tuples.ensures ∙ same ∙ joined-pruned c.args.query.now (seen_in tables keys partitions) c.requires.tree can
+    c.in_ok-sort_by_rowid.ensures in
+    same ∙ joined-pruned c.args.query.now (seen_in tables keys partitions) c.requires.tree can
 
 pub returns-clause-raised : goal.returns-clause-raised
 returns-clause-raised g c =
