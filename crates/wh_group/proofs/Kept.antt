@@ -1,11 +1,10 @@
 -- What is kept of a group after one more thing, and of all groups.
-use Rattle.std.proofs.Common.{◌≡◌, ◌∙◌, sym, ap, subst, refl, arith, ℕ, ◌+◌, Bool, true, false, cond, ◌||◌, List, [], ◌∷◌, ◌++◌, length, map, take, slice_get, Some}
+use Rattle.std.proofs.Common.{◌≡◌, ◌∙◌, sym, ap, subst, refl, arith, ℕ, ◌+◌, Bool, true, false, cond, ◌||◌, List, [], ◌∷◌, ◌++◌, length, map}
 use Rattle.std.specs.Prelude.{ℤ, ◌+ℤ◌}
 use Rattle.std.specs.List.{filter}
 use Rattle.std.proofs.Math.IntN.{+ℤ_idr}
 use Rattle.std.proofs.lemmas.List.Elements.{filter-append}
-use Rattle.std.proofs.lemmas.List.{append-nil, map-append, take_more}
-use Rattle.std.proofs.lemmas.Option.{slice_get_within, get_or_from_slice_get}
+use Rattle.std.proofs.lemmas.List.{append-nil, map-append}
 use Rattle.wh_base.specs.Lists.{distinct}
 use Rattle.wh_base.specs.Values.{is_null, same_values}
 use Rattle.wh_base.specs.declared.columns.Agg.{Agg}
@@ -179,13 +178,6 @@ module _ {T : Type 0} (value : T → ColRef → Value) (aggs : List Agg) where
       → map (kept value aggs) (groups value keys (ts ++ t ∷ [])) ≡ change_group (map (value t) keys) (tallies_with (counted (value t)) aggs) (begun aggs) (map (kept value aggs) (groups value keys ts))
   groups-push [] ts t = λ i. ([], tallies-push value ts t aggs i) ∷ []
   groups-push (c ∷ cs) ts t = kept_by-push value aggs (key_of value (c ∷ cs)) ts t
-
-  -- while the things are counted
-  pub groups-more : (keys : List ColRef) (at : ℕ) (ts : List T) (t : T) → slice_get ts at ≡ Some t
-      → map (kept value aggs) (groups value keys (take (at + 1) ts)) ≡ change_group (map (value t) keys) (tallies_with (counted (value t)) aggs) (begun aggs) (map (kept value aggs) (groups value keys (take at ts)))
-  groups-more keys at ts t e =
-      let taken : take (at + 1) ts ≡ take at ts ++ t ∷ [] = take_more ts at t (slice_get_within ts at t e) ∙ ap (λ u. take at ts ++ u ∷ []) (get_or_from_slice_get ts at t t e) in
-      ap (λ us. map (kept value aggs) (groups value keys us)) taken ∙ groups-push keys (take at ts) t
 
   -- before the first one
   pub groups-none : (c : ColRef) (cs : List ColRef) → map (kept value aggs) (groups value (c ∷ cs) []) ≡ []

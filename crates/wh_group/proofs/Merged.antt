@@ -265,14 +265,6 @@ module _ {T : Type 0} (value : T → ColRef → Value) (aggs : List Agg) where
   merged_keys [] ts us = λ i. ([], tallies-append value ts us aggs i) ∷ []
   merged_keys (c ∷ cs) ts us = merged_by_key (key_of value (c ∷ cs)) ts us
 
--- the groups, put to none
-pub groups-owned : {T : Type 0} (value : T → ColRef → Value) (q : StarQuery) (ts : List T) → merged_groups [] (kept_groups value q ts) ≡ kept_groups value q ts
-groups-owned value q ts = by q.keys
-  where
-    by : (keys : List ColRef) → merged_groups [] (map (kept value (query_aggs q)) (groups value keys ts)) ≡ map (kept value (query_aggs q)) (groups value keys ts)
-    by [] = refl
-    by (c ∷ cs) = merged_keys value (query_aggs q) (c ∷ cs) [] ts
-
 -- the groups of two lists, merged, are those of the lists in a row
 pub groups-append : {T : Type 0} (value : T → ColRef → Value) (q : StarQuery) (ts us : List T) → merged_groups (kept_groups value q ts) (kept_groups value q us) ≡ kept_groups value q (ts ++ us)
 groups-append value q ts us = merged_keys value (query_aggs q) q.keys ts us

@@ -15,7 +15,7 @@ use Rattle.wh_base.specs.declared.values.Value.{Value}
 use Rattle.wh_base.specs.declared.values.Value.TheVariants.{Null}
 use Rattle.wh_base.specs.declared.views.ViewEntry.{ViewEntry}
 use Rattle.def_meaning.specs.Accumulated.{item_aggs}
-use Rattle.wh_group.specs.Entries.{item_value, items_row, kept_entries, kept_entry, next_place, passes, tests_true, value_beside}
+use Rattle.wh_group.specs.Entries.{item_value, items_row, kept_entries, kept_entry, kept_rows, next_place, passes, tests_true, value_beside}
 use Rattle.wh_group.specs.Tallies.{Kept, tally_value}
 use Rattle.wh_group.specs.declared.tally.Tally.{Tally}
 
@@ -106,6 +106,9 @@ pub ruleset parts = (drop-part)
 
 -- ---- groups
 
+abbrev row_by : StarQuery → Kept → List Value
+row_by q g = items_row q.keys g.0 g.1 0 q.items
+
 pub passing : (q : StarQuery) (key : List Value) (ts : List Tally) (more : List Kept) (done : List ViewEntry) → passes q (key, ts) ≡ true
     → (done ++ kept_entry q (key, ts) ∷ []) ++ kept_entries q more ≡ done ++ kept_entries q ((key, ts) ∷ more)
 passing q key ts more done e =
@@ -116,3 +119,22 @@ pub left-out : (q : StarQuery) (key : List Value) (ts : List Tally) (more : List
 left-out q key ts more e = sym (ap (λ b. map (kept_entry q) (cond b ((key, ts) ∷ filter (passes q) more) (filter (passes q) more))) e)
 
 pub ruleset listed = (passing, left-out)
+
+pub row-passing : (q : StarQuery) (key : List Value) (ts : List Tally) (more : List Kept) (done : List (List Value)) → passes q (key, ts) ≡ true
+    → (done ++ items_row q.keys key ts 0 q.items ∷ []) ++ kept_rows q more ≡ done ++ kept_rows q ((key, ts) ∷ more)
+row-passing q key ts more done e =
+    append_assoc done (items_row q.keys key ts 0 q.items ∷ []) (kept_rows q more)
+    ∙ sym (ap (λ b. done ++ map (row_by q) (cond b ((key, ts) ∷ filter (passes q) more) (filter (passes q) more))) e)
+
+pub row-left_out : (q : StarQuery) (key : List Value) (ts : List Tally) (more : List Kept) → passes q (key, ts) ≡ false → kept_rows q more ≡ kept_rows q ((key, ts) ∷ more)
+row-left_out q key ts more e = sym (ap (λ b. map (row_by q) (cond b ((key, ts) ∷ filter (passes q) more) (filter (passes q) more))) e)
+
+-- the rows alone are those of the entries
+pub rows-kept : (q : StarQuery) (groups : List Kept) → kept_rows q groups ≡ map (λ e. e.row) (kept_entries q groups)
+rows-kept q groups = rows_each (filter (passes q) groups)
+  where
+    rows_each : (gs : List Kept) → map (row_by q) gs ≡ map (λ (e : ViewEntry). e.row) (map (kept_entry q) gs)
+    rows_each [] = refl
+    rows_each (g ∷ gs) = ap (λ rs. row_by q g ∷ rs) (rows_each gs)
+
+pub ruleset rows_listed = (row-passing, row-left_out)

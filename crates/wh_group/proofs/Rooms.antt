@@ -1,12 +1,12 @@
 -- What is kept of fewer than 2^20 tuples with small numbers has room for one more.
-use Rattle.std.proofs.Common.{subst, refl, arith, ℕ, ◌+◌, ◌*◌, ◌^◌, ◌<◌, ◌≤◌, Bool, true, false, ◌&&◌, cond, List, [], ◌∷◌, length, map, take, suc, IsTrue}
+use Rattle.std.proofs.Common.{subst, refl, arith, ℕ, ◌+◌, ◌*◌, ◌^◌, ◌<◌, ◌≤◌, Bool, true, false, ◌&&◌, cond, List, [], ◌∷◌, length, map, suc, IsTrue}
 use Rattle.std.specs.Prelude.{ℤ, ◌+ℤ◌, nat_abs}
 use Rattle.std.specs.List.{filter, list_all, All}
 use Rattle.std.proofs.lemmas.Bool.Decides.{nat_tests}
 use Rattle.std.proofs.lemmas.Int.{ints, unsigned_abs-mul}
 use Rattle.std.proofs.Math.Nat.{mul-le-mul}
-use Rattle.std.proofs.lemmas.List.{length-map, length-take}
-use Rattle.std.proofs.lemmas.List.Elements.{All-nil, All-cons, All-head, All-tail, All-filter, All-take, All-weaker}
+use Rattle.std.proofs.lemmas.List.{length-map}
+use Rattle.std.proofs.lemmas.List.Elements.{All-nil, All-cons, All-head, All-tail, All-filter, All-weaker}
 use Rattle.std.proofs.lemmas.List.Sums.{AllPass-from_list_all}
 use Rattle.wh_base.specs.Lists.{distinct}
 use Rattle.wh_base.specs.Values.{is_small, product_value, same_values}
@@ -126,13 +126,9 @@ module _ (tables : List ℕ) where
         (tallies_room mine aggs (All-filter (λ t. same_values (key t) k) IsSmallTuple ts small) aggs_small (omega (arith, fewer (λ t. same_values (key t) k) ts)))
         (by_key_room key ts ks small few)
 
-    groups_room : (keys : List ColRef) (ts : List (List RowAt)) → All IsSmallTuple ts → length ts < 2 ^ 20 → HaveRoom (map (kept value aggs) (groups value keys ts))
+    pub groups_room : (keys : List ColRef) (ts : List (List RowAt)) → All IsSmallTuple ts → length ts < 2 ^ 20 → HaveRoom (map (kept value aggs) (groups value keys ts))
     groups_room [] ts small few = All-cons (λ g. All HasRoom g.1) (kept value aggs ([], ts)) [] (tallies_room ts aggs small aggs_small few) (All-nil (λ g. All HasRoom g.1))
     groups_room (c ∷ cs) ts small few = by_key_room (key_of value (c ∷ cs)) ts (distinct same_values (map (key_of value (c ∷ cs)) ts)) small few
-
-    -- while the tuples are counted
-    pub counting_room : (keys : List ColRef) (at : ℕ) (ts : List (List RowAt)) → AreSmallTuples ts → at < 2 ^ 20 → HaveRoom (map (kept value aggs) (groups value keys (take at ts)))
-    counting_room keys at ts small few = groups_room keys (take at ts) (All-take IsSmallTuple at ts (each_small ts small)) (omega (arith, length-take at ts))
 
     -- before the first one
     pub begun_room : All HasRoom (begun aggs)

@@ -63,6 +63,10 @@ kept_entry q g = record { key = g.0; row = items_row q.keys g.0 g.1 0 q.items }
 abbrev pub kept_entries : StarQuery → List Kept → List ViewEntry
 kept_entries q groups = map (kept_entry q) (filter (passes q) groups)
 
+-- their rows alone
+abbrev pub kept_rows : StarQuery → List Kept → List (List Value)
+kept_rows q groups = map (λ g. items_row q.keys g.0 g.1 0 q.items) (filter (passes q) groups)
+
 -- the order of two rows by one key of ORDER BY; DESC reverses it
 abbrev pub key_cmp : OrderKey → List Value → List Value → Ordering
 key_cmp k a b = let o = value_cmp (value_at a k.item) (value_at b k.item) in cond k.descending (ordering_reverse o) o

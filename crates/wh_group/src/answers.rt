@@ -4,15 +4,15 @@ ghost use Rattle.def_meaning.specs.Meaning.{entry_cmp, grouped_entries, in_order
 ghost use Rattle.std.specs.Prelude.{◌≡◌, ◌<◌, ◌-◌, ◌^◌, List, drop, flat_map, length, map, IfOk};
 ghost use Rattle.wh_base.specs.Lists.{sorted_by};
 ghost use Rattle.wh_base.specs.declared.tables.RowAt.{RowAt};
-ghost use Rattle.wh_group.specs.Entries.{item_value, items_row, kept_entries, kept_entry, next_place, tests_true, value_beside};
+ghost use Rattle.wh_group.specs.Entries.{item_value, items_row, kept_entries, kept_entry, kept_rows, next_place, tests_true, value_beside};
 ghost use Rattle.wh_group.specs.Tallies.{kept_groups};
 
-use crate::groups::{Groups, Tallies};
+use crate::groups::Groups;
+use crate::key::{KeyPart, values_of};
 use crate::order::{sort_entries, sort_rows};
 use crate::tally::Tally;
 use std::alloc::{AllocError, Global};
 use wh_base::columns::ColRef;
-use wh_base::copied::Copied;
 use wh_base::queries::{Item, StarQuery, Test};
 use wh_base::seq::Seq;
 use wh_base::values::{Rows, Value};
@@ -23,7 +23,7 @@ use wh_base::views::{ViewEntry, ViewRows};
 fn value_beside(
     alloc: Global,
     keys: &[ColRef],
-    values: &[Value],
+    values: &[KeyPart<'_>],
     column: ColRef,
 ) -> Result<Value, AllocError>
     ensures { IfOk result (λ v. v ≡ value_beside keys.now values.now column) }
@@ -43,7 +43,7 @@ fn value_beside(
 fn item_value(
     alloc: Global,
     keys: &[ColRef],
-    key: &[Value],
+    key: &[KeyPart<'_>],
     tallies: &[Tally],
     at: usize,
     item: Item,
@@ -75,7 +75,7 @@ fn next_place(at: usize, item: Item) -> usize
 fn items_row(
     alloc: Global,
     keys: &[ColRef],
-    key: &[Value],
+    key: &[KeyPart<'_>],
     tallies: &[Tally],
     items: &[Item],
 ) -> Result<Seq<Value>, AllocError>
@@ -127,24 +127,36 @@ fn passes(query: &StarQuery, tallies: &[Tally]) -> bool
     tests_hold(query.having.as_slice(), tallies.split_at(selected).1)
 }
 
+// The row of a group. An error says that memory ran out.
+fn row_of(
+    alloc: Global,
+    query: &StarQuery,
+    key: &[KeyPart<'_>],
+    tallies: &[Tally],
+) -> Result<Seq<Value>, AllocError>
+    ensures { IfOk result (λ row. row ≡ items_row query.now.keys key.now tallies.now 0 query.now.items) }
+{
+    items_row(
+        alloc,
+        query.keys.as_slice(),
+        key,
+        tallies,
+        query.items.as_slice(),
+    )
+}
+
 // The entry of a group. An error says that memory ran out.
 fn entry_of(
     alloc: Global,
     query: &StarQuery,
-    key: &Seq<Value>,
-    tallies: &Tallies,
+    key: &[KeyPart<'_>],
+    tallies: &[Tally],
 ) -> Result<ViewEntry, AllocError>
     ensures { IfOk result (λ e. e ≡ kept_entry query.now (key.now, tallies.now)) }
 {
-    let row = items_row(
-        alloc,
-        query.keys.as_slice(),
-        key.as_slice(),
-        tallies.as_slice(),
-        query.items.as_slice(),
-    )?;
+    let row = row_of(alloc, query, key, tallies)?;
     Ok(ViewEntry {
-        key: key.copied(alloc)?,
+        key: values_of(alloc, key)?,
         row,
     })
 }
@@ -154,44 +166,50 @@ fn entry_of(
 fn list_entries(
     alloc: Global,
     query: &StarQuery,
-    groups: &Groups,
+    groups: Groups<'_>,
 ) -> Result<Vec<ViewEntry>, AllocError>
-    ensures { IfOk result (λ entries. entries.items ≡ kept_entries query.now groups.now.entries) }
+    ensures { IfOk result (λ entries. entries.items ≡ kept_entries query.now groups.entry.entries) }
 {
     let mut entries = Vec::new(alloc);
     for (key, tallies) in groups {
         if passes(query, tallies.as_slice()) {
-            entries.push(entry_of(alloc, query, key, tallies)?)?;
+            entries.push(entry_of(alloc, query, key.as_slice(), tallies.as_slice())?)?;
         }
     }
     Ok(entries)
 }
 
-/// What a view of the query stores of these groups: an entry for each that meets HAVING, in the order of a view, which is this
-/// project's own: by the keys and then by the rows, value by value, NULL last. An error says that memory ran out.
-pub fn entries(alloc: Global, query: &StarQuery, groups: &Groups) -> Result<ViewRows, AllocError>
-    ensures { (ts : List (List RowAt)) → groups.now.entries ≡ kept_groups (column_value query.now.tables) query.now ts → IfOk result (λ rows. rows ≡ sorted_by entry_cmp (grouped_entries (column_value query.now.tables) query.now ts)) }
+// The rows of the groups, in their order. An error says that memory ran out.
+#[tactic(auto, using(crate::proofs::Places::rows_listed))]
+fn list_rows(
+    alloc: Global,
+    query: &StarQuery,
+    groups: Groups<'_>,
+) -> Result<Vec<Seq<Value>>, AllocError>
+    ensures { IfOk result (λ rows. rows.items ≡ kept_rows query.now groups.entry.entries) }
 {
-    sort_entries(list_entries(alloc, query, groups)?)
-}
-
-// The rows of entries. Takes them apart.
-fn rows_of(alloc: Global, entries: Vec<ViewEntry>) -> Result<Vec<Seq<Value>>, AllocError>
-    ensures { IfOk result (λ rows. rows.items ≡ map (λ e. e.row) entries.items) }
-{
-    let mut rows = Vec::with_capacity(alloc, entries.len())?;
-    for entry in entries {
-        rows.push(entry.row)?;
+    let mut rows = Vec::new(alloc);
+    for (key, tallies) in groups {
+        if passes(query, tallies.as_slice()) {
+            rows.push(row_of(alloc, query, key.as_slice(), tallies.as_slice())?)?;
+        }
     }
     Ok(rows)
+}
+
+/// What a view of the query stores of these groups: an entry for each that meets HAVING, in the order of a view, which is this
+/// project's own: by the keys and then by the rows, value by value, NULL last. An error says that memory ran out.
+pub fn entries(alloc: Global, query: &StarQuery, groups: Groups<'_>) -> Result<ViewRows, AllocError>
+    ensures { (ts : List (List RowAt)) → groups.entry.entries ≡ kept_groups (column_value query.now.tables) query.now ts → IfOk result (λ rows. rows ≡ sorted_by entry_cmp (grouped_entries (column_value query.now.tables) query.now ts)) }
+{
+    sort_entries(list_entries(alloc, query, groups)?)
 }
 
 /// The rows of the answer of the query from these groups: those that meet HAVING, in the order of ORDER BY, where DESC turns a
 /// key round and NULL comes last, and then by all items from left to right, which is this project's own rule. An error says
 /// that memory ran out.
-pub fn finish(alloc: Global, query: &StarQuery, groups: Groups) -> Result<Rows, AllocError>
-    ensures { (ts : List (List RowAt)) → groups.entries ≡ kept_groups (column_value query.now.tables) query.now ts → IfOk result (λ rows. rows ≡ in_order query.now.order (map (λ e. e.row) (sorted_by entry_cmp (grouped_entries (column_value query.now.tables) query.now ts)))) }
+pub fn finish(alloc: Global, query: &StarQuery, groups: Groups<'_>) -> Result<Rows, AllocError>
+    ensures { (ts : List (List RowAt)) → groups.entry.entries ≡ kept_groups (column_value query.now.tables) query.now ts → IfOk result (λ rows. rows ≡ in_order query.now.order (map (λ e. e.row) (sorted_by entry_cmp (grouped_entries (column_value query.now.tables) query.now ts)))) }
 {
-    let entries = list_entries(alloc, query, &groups)?;
-    sort_rows(query.order.as_slice(), rows_of(alloc, entries)?)
+    sort_rows(query.order.as_slice(), list_rows(alloc, query, groups)?)
 }

@@ -13,8 +13,7 @@ use std::marker::Model;
 use wh_base::columns::{Agg, ColRef};
 use wh_base::queries::{Item, StarQuery};
 use wh_base::seq::Seq;
-use wh_base::values::Value;
-use wh_tuple::{Cell, TupleRow, Tuples, cell_of, expr_cell};
+use wh_tuple::{Cell, TupleRow, TupleSource, cell_of, expr_cell};
 
 /// What is kept of a group: a tally for each aggregate of the query's items, and then for each of HAVING.
 #[derive(Drop)]
@@ -35,11 +34,8 @@ impl Model for Tallies {
     ghost view = { λ t. t.list.items };
 }
 
-/// Groups by their keys, in the order in which the keys came first.
-pub type Groups = IndexMap<Seq<Value>, Tallies>;
-
-/// Groups while they are counted: the values of their keys stand in the tuples.
-pub type Counted<'a> = IndexMap<Seq<KeyPart<'a>>, Tallies>;
+/// Groups by their keys, in the order in which the keys came first. The values of a key stand where the rows of its tuples do.
+pub type Groups<'a> = IndexMap<Seq<KeyPart<'a>>, Tallies>;
 
 // The aggregates among the items.
 fn push_selected(aggs: &mut Vec<Agg>, items: &[Item]) -> Result<(), AllocError>
@@ -195,7 +191,7 @@ fn key_of<'a>(
 #[tactic(auto, using(crate::proofs::Steps::steps, crate::proofs::Rooms::begun_room))]
 fn add_to_group<'a>(
     alloc: Global,
-    groups: &mut Counted<'a>,
+    groups: &mut Groups<'a>,
     key: Seq<KeyPart<'a>>,
     tables: &[u32],
     tuple: &[TupleRow<'_>],
@@ -220,7 +216,7 @@ fn add_to_group<'a>(
 // The same of a tuple of a query.
 fn add_tuple<'a>(
     alloc: Global,
-    groups: &mut Counted<'a>,
+    groups: &mut Groups<'a>,
     query: &StarQuery,
     aggs: &[Agg],
     tuple: &[TupleRow<'a>],
@@ -236,7 +232,7 @@ fn add_tuple<'a>(
 }
 
 // The groups before the first tuple: none where there are group columns, and else the one group of all tuples.
-fn no_tuples<'a>(alloc: Global, keys: &[ColRef], aggs: &[Agg]) -> Result<Counted<'a>, AllocError>
+fn no_tuples<'a>(alloc: Global, keys: &[ColRef], aggs: &[Agg]) -> Result<Groups<'a>, AllocError>
     ensures { IfOk result (λ groups. groups.entries ≡ first_groups keys.now aggs.now) }
 {
     let mut groups = IndexMap::new(alloc);
@@ -246,22 +242,25 @@ fn no_tuples<'a>(alloc: Global, keys: &[ColRef], aggs: &[Agg]) -> Result<Counted
     Ok(groups)
 }
 
-/// The groups of a query over tuples with one row of each of its tables, by keys whose values stand in the tuples.
-#[tactic(auto, using(crate::proofs::Counting::counting))]
-pub fn count<'a>(
+/// The groups of a query over the tuples that come from a source, in the order in which their keys come first. A tuple has one row
+/// of each of the query's tables. As in the SQL language, rows whose keys are NULL are one group, COUNT(*) counts all tuples, and
+/// the other aggregates leave out NULL; without group columns there is one group, also over nothing. Each number in the tuples
+/// and in the aggregates is below 10^15 in size, so that no sum leaves 128 bits. An error says that memory ran out.
+pub fn group<'a, S: TupleSource<'a>>(
     alloc: Global,
     query: &StarQuery,
-    tuples: &Tuples<'a>,
-) -> Result<Counted<'a>, AllocError>
-    requires few { length tuples.now.tuples ≤ 262144 }
-    requires tuples { AreSmallTuples tuples.now.tuples }
+    source: &mut S,
+) -> Result<Groups<'a>, AllocError>
+    requires few { length (S.left source.old) ≤ 262144 }
+    requires tuples { AreSmallTuples (S.left source.old) }
     requires aggs { HasSmallAggs query.now }
-    ensures { IfOk result (λ groups. groups.entries ≡ kept_groups (column_value query.now.tables) query.now tuples.now.tuples) }
+    ensures { IfOk result (λ groups. groups.entries ≡ kept_groups (column_value query.now.tables) query.now (S.left source.old)) }
 {
     let aggs = query_aggs(alloc, query)?;
     let mut groups = no_tuples(alloc, query.keys.as_slice(), aggs.as_slice())?;
-    for at in 0..tuples.len() {
-        add_tuple(alloc, &mut groups, query, aggs.as_slice(), tuples.tuple(at))?;
+    let mut tuple = Vec::with_capacity(alloc, query.tables.len())?;
+    'tuples: while source.next(&mut tuple)? {
+        add_tuple(alloc, &mut groups, query, aggs.as_slice(), tuple.as_slice())?;
     }
     Ok(groups)
 }

@@ -77,11 +77,11 @@ impl Hash for KeyPart<'_> {
 }
 
 /// The values of a key, in memory of their own. An error says that memory ran out.
-pub fn owned_key(alloc: Global, key: &Seq<KeyPart<'_>>) -> Result<Seq<Value>, AllocError>
+pub fn values_of(alloc: Global, key: &[KeyPart<'_>]) -> Result<Seq<Value>, AllocError>
     ensures { IfOk result (λ values. values ≡ key.now) }
 {
     let mut values = Vec::with_capacity(alloc, key.len())?;
-    for part in key.as_slice() {
+    for part in key {
         values.push(part.copy(alloc)?)?;
     }
     Seq::from_vec(values)

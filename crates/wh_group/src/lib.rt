@@ -10,9 +10,9 @@ mod small;
 mod tally;
 
 pub use answers::{entries, finish};
-pub use groups::{Counted, Groups, Tallies, count, query_aggs};
+pub use groups::{Groups, Tallies, group, query_aggs};
 pub use key::KeyPart;
-pub use merging::{group, merge};
+pub use merging::merge;
 pub use order::{sort_entries, sort_rows};
-pub use small::{are_small_tuples, has_small_aggs};
+pub use small::{has_small_aggs, is_small_tuple};
 pub use tally::{Summed, Tally};

@@ -4,23 +4,19 @@ ghost use Rattle.wh_base.specs.declared.queries.StarQuery.{StarQuery};
 ghost use Rattle.wh_base.specs.declared.tables.RowAt.{RowAt};
 ghost use Rattle.wh_group.specs.Tallies.{AreSmallTuples, HasSmallAggs, change_group, kept_groups, merged_groups, merged_tallies};
 
-use crate::groups::{Counted, Groups, Tallies, count};
-use crate::key::owned_key;
-use indexmap::IndexMap;
+use crate::groups::{Groups, Tallies};
+use crate::key::KeyPart;
 use std::alloc::{AllocError, Global};
-use wh_base::queries::StarQuery;
 use wh_base::seq::Seq;
-use wh_base::values::Value;
-use wh_tuple::Tuples;
 
 // One more group: that of its key and this one are put together, or it comes last.
-fn merge_group(
+fn merge_group<'a>(
     alloc: Global,
-    groups: &mut Groups,
-    key: Seq<Value>,
+    groups: &mut Groups<'a>,
+    key: Seq<KeyPart<'a>>,
     tallies: Tallies,
 ) -> Result<(), AllocError>
-    ensures { OnOk result (groups.new.entries ≡ change_group key (λ ts. merged_tallies ts tallies) [] groups.old.entries) }
+    ensures { OnOk result (groups.new.entries ≡ change_group key.entry (λ ts. merged_tallies ts tallies) [] groups.old.entries) }
 {
     match groups.get_mut(&key) {
         Some(kept) => kept.merge(alloc, tallies)?,
@@ -31,33 +27,13 @@ fn merge_group(
     Ok(())
 }
 
-// Counted groups with keys of their own: each key is copied once.
-fn owned(alloc: Global, counted: Counted<'_>) -> Result<Groups, AllocError>
-    ensures { IfOk result (λ groups. groups.entries ≡ merged_groups [] counted.entry.entries) }
-{
-    let mut groups = IndexMap::new(alloc);
-    for (key, tallies) in counted {
-        merge_group(alloc, &mut groups, owned_key(alloc, &key)?, tallies)?;
-    }
-    Ok(groups)
-}
-
-/// The groups of a query over tuples with one row of each of its tables, in the order in which their keys come first. As in
-/// the SQL language, rows whose keys are NULL are one group, COUNT(*) counts all tuples, and the other aggregates leave out
-/// NULL; without group columns there is one group, also over nothing. Each number in the tuples and in the aggregates is
-/// below 10^15 in size, so that no sum leaves 128 bits. An error says that memory ran out.
-pub fn group(alloc: Global, query: &StarQuery, tuples: &Tuples<'_>) -> Result<Groups, AllocError>
-    requires few { length tuples.now.tuples ≤ 262144 }
-    requires tuples { AreSmallTuples tuples.now.tuples }
-    requires aggs { HasSmallAggs query.now }
-    ensures { IfOk result (λ groups. groups.entries ≡ kept_groups (column_value query.now.tables) query.now tuples.now.tuples) }
-{
-    owned(alloc, count(alloc, query, tuples)?)
-}
-
 // All groups of the second put to the first, one after another.
-fn merge_each(alloc: Global, first: Groups, second: Groups) -> Result<Groups, AllocError>
-    ensures { IfOk result (λ groups. groups.entries ≡ merged_groups first.entries second.entries) }
+fn merge_each<'a>(
+    alloc: Global,
+    first: Groups<'a>,
+    second: Groups<'a>,
+) -> Result<Groups<'a>, AllocError>
+    ensures { IfOk result (λ groups. groups.entries ≡ merged_groups first.entry.entries second.entry.entries) }
 {
     let mut groups = first;
     for (key, tallies) in second {
@@ -69,8 +45,12 @@ fn merge_each(alloc: Global, first: Groups, second: Groups) -> Result<Groups, Al
 /// Puts the groups of two lists of tuples together: counts and sums add, and the lesser and the greater value stay. The
 /// groups of the first keep their order, and new ones come last. An error says that memory ran out, that a count leaves 64
 /// bits, or a sum 128.
-pub fn merge(alloc: Global, first: Groups, second: Groups) -> Result<Groups, AllocError>
-    ensures { (query : StarQuery) (ts us : List (List RowAt)) → first.entries ≡ kept_groups (column_value query.tables) query ts → second.entries ≡ kept_groups (column_value query.tables) query us → IfOk result (λ groups. groups.entries ≡ kept_groups (column_value query.tables) query (ts ++ us)) }
+pub fn merge<'a>(
+    alloc: Global,
+    first: Groups<'a>,
+    second: Groups<'a>,
+) -> Result<Groups<'a>, AllocError>
+    ensures { (query : StarQuery) (ts us : List (List RowAt)) → first.entry.entries ≡ kept_groups (column_value query.tables) query ts → second.entry.entries ≡ kept_groups (column_value query.tables) query us → IfOk result (λ groups. groups.entries ≡ kept_groups (column_value query.tables) query (ts ++ us)) }
 {
     merge_each(alloc, first, second)
 }

@@ -2,13 +2,13 @@ ghost use Rattle.std.specs.List.{list_all};
 ghost use Rattle.std.specs.Prelude.{◌≡◌, ◌↔◌, IsTrue};
 ghost use Rattle.wh_base.specs.Values.{is_small};
 ghost use Rattle.wh_base.specs.declared.values.Value.TheVariants.{Num};
-ghost use Rattle.wh_group.specs.Tallies.{AreSmallTuples, HasSmallAggs, is_small_agg, small_item};
-ghost use Rattle.wh_tuple.specs.Meant.{is_small_row};
+ghost use Rattle.wh_group.specs.Tallies.{HasSmallAggs, is_small_agg, small_item};
+ghost use Rattle.wh_tuple.specs.Meant.{IsSmallTuple, is_small_row};
 
 use wh_base::columns::{Agg, Expr};
 use wh_base::queries::{Item, StarQuery, Test};
 use wh_base::values::Value;
-use wh_tuple::{TupleRow, Tuples};
+use wh_tuple::TupleRow;
 
 // Whether a number is below 10^15 in size.
 fn is_small_number(number: i128) -> bool
@@ -45,24 +45,12 @@ fn is_small_row(row: &TupleRow<'_>) -> bool
         && are_small_values(row.values().as_slice())
 }
 
-fn is_small_tuple(tuple: &[TupleRow<'_>]) -> bool
-    ensures { result ≡ list_all is_small_row tuple.now }
+/// Whether each number in the tuple is below 10^15 in size, its rowids and the numbers of its partitions too.
+pub fn is_small_tuple(tuple: &[TupleRow<'_>]) -> bool
+    ensures { IsTrue result ↔ IsSmallTuple tuple.now }
 {
     for row in tuple {
         if !is_small_row(row) {
-            return false;
-        }
-    }
-    true
-}
-
-/// Whether each number in the tuples is below 10^15 in size, their rowids and the numbers of their partitions too.
-#[tactic(auto, using(crate::proofs::Limits::tuples))]
-pub fn are_small_tuples(tuples: &Tuples<'_>) -> bool
-    ensures { IsTrue result ↔ AreSmallTuples tuples.now.tuples }
-{
-    for at in 0..tuples.len() {
-        if !is_small_tuple(tuples.tuple(at)) {
             return false;
         }
     }
