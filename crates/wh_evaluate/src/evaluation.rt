@@ -29,7 +29,7 @@ pub fn evaluate<L, R: RowsOf<L>>(
     ensures most { (base : Base) → Shows (R.tables rows.now) (R.keys rows.now) (R.partitions rows.now) base → reads.new ≤ reads.old + base_reads query.now base }
 {
     let tuples = join(alloc, query, rows, reads)?;
-    let found = answer(alloc, query, &tuples)?;
+    let found = answer(alloc, query, tuples)?;
     Ok(found)
 }
 
@@ -49,6 +49,6 @@ pub fn evaluate_view<L, R: RowsOf<L>>(
     ensures most { (base : Base) → Shows (R.tables rows.now) (R.keys rows.now) (R.partitions rows.now) base → reads.new ≤ reads.old + base_reads query.now base }
 {
     let tuples = join(alloc, query, rows, reads)?;
-    let found = view(alloc, query, &tuples)?;
+    let found = view(alloc, query, tuples)?;
     Ok(found)
 }

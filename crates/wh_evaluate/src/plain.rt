@@ -7,7 +7,7 @@ use wh_base::queries::{Item, StarQuery};
 use wh_base::seq::Seq;
 use wh_base::values::Value;
 use wh_base::views::ViewEntry;
-use wh_tuple::{TupleRow, Tuples, cell_of};
+use wh_tuple::{TupleRow, TupleSource, cell_of};
 
 // The value of an item in a tuple. An error says that memory ran out.
 fn item_value(
@@ -67,36 +67,38 @@ fn tuple_entry(
     })
 }
 
-/// The rows of a query that isn't grouped, one for each tuple, in their order. An error says that memory ran out.
+/// The rows of a query that isn't grouped, one for each tuple that comes, in their order. An error says that memory ran out.
 #[tactic(auto, using(crate::proofs::Turns::turns))]
-pub fn plain_rows(
+pub fn plain_rows<'a, S: TupleSource<'a>>(
     alloc: Global,
     query: &StarQuery,
-    tuples: &Tuples<'_>,
+    source: &mut S,
 ) -> Result<Vec<Seq<Value>>, AllocError>
-    ensures { IfOk result (λ rows. rows.items ≡ map (λ t. map (plain_item (column_value query.now.tables t)) query.now.items) tuples.now.tuples) }
+    ensures { IfOk result (λ rows. rows.items ≡ map (λ t. map (plain_item (column_value query.now.tables t)) query.now.items) (S.left source.old)) }
 {
-    let mut rows = Vec::with_capacity(alloc, tuples.len())?;
-    for at in 0..tuples.len() {
-        let row = tuple_row(alloc, query, tuples.tuple(at))?;
+    let mut rows = Vec::new(alloc);
+    let mut tuple = Vec::with_capacity(alloc, query.tables.len())?;
+    'tuples: while source.next(&mut tuple)? {
+        let row = tuple_row(alloc, query, tuple.as_slice())?;
         rows.push(row)?;
     }
     Ok(rows)
 }
 
-/// The entries of a query that isn't grouped, one without a key for each tuple, in their order. An error says that memory ran
-/// out.
+/// The entries of a query that isn't grouped, one without a key for each tuple that comes, in their order. An error says that
+/// memory ran out.
 #[tactic(auto, using(crate::proofs::Turns::turns))]
-pub fn plain_entries(
+pub fn plain_entries<'a, S: TupleSource<'a>>(
     alloc: Global,
     query: &StarQuery,
-    tuples: &Tuples<'_>,
+    source: &mut S,
 ) -> Result<Vec<ViewEntry>, AllocError>
-    ensures { IfOk result (λ entries. entries.items ≡ plain_entries (column_value query.now.tables) query.now tuples.now.tuples) }
+    ensures { IfOk result (λ entries. entries.items ≡ plain_entries (column_value query.now.tables) query.now (S.left source.old)) }
 {
-    let mut entries = Vec::with_capacity(alloc, tuples.len())?;
-    for at in 0..tuples.len() {
-        let entry = tuple_entry(alloc, query, tuples.tuple(at))?;
+    let mut entries = Vec::new(alloc);
+    let mut tuple = Vec::with_capacity(alloc, query.tables.len())?;
+    'tuples: while source.next(&mut tuple)? {
+        let entry = tuple_entry(alloc, query, tuple.as_slice())?;
         entries.push(entry)?;
     }
     Ok(entries)

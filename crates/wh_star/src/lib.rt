@@ -9,6 +9,6 @@ mod pruning;
 mod range;
 mod scan;
 
-pub use joining::joined;
+pub use joining::{Joining, joined};
 pub use pruning::{misses, query_range};
 pub use range::Range;

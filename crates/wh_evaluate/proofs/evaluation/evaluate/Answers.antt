@@ -7,7 +7,7 @@ answer-requires-clause-aggs g c = small-aggs (g.R.RowsOf.tables c.args.rows.now)
 
 pub returns-clause-rows : goal.returns-clause-rows
 returns-clause-rows g c = λ base shown.
-    c.in_ok-found.ensures ∙ answer-shown (g.R.RowsOf.tables c.args.rows.now) (g.R.RowsOf.keys c.args.rows.now) (g.R.RowsOf.partitions c.args.rows.now) base shown c.args.query.now c.in_ok-tuples.tuples.tuples c.in_ok-tuples.ensures.tuples
+    c.in_ok-found.ensures ∙ answer-shown (g.R.RowsOf.tables c.args.rows.now) (g.R.RowsOf.keys c.args.rows.now) (g.R.RowsOf.partitions c.args.rows.now) base shown c.args.query.now c.in_ok-tuples.tuples c.in_ok-tuples.ensures.tuples
 
 pub returns-clause-raised : goal.returns-clause-raised
 returns-clause-raised g c = λ base shown. raised-shown (g.R.RowsOf.tables c.args.rows.now) (g.R.RowsOf.keys c.args.rows.now) (g.R.RowsOf.partitions c.args.rows.now) base shown c.args.query.now c.args.reads.now c.join.new.reads c.in_ok-tuples.ensures.raised

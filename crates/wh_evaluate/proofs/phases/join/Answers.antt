@@ -16,9 +16,9 @@ returns-clause-tuples g c = c.in_ok-tuples.ensures.all (can-prune (g.R.RowsOf.ta
 pub returns-clause-few : goal.returns-clause-few
 returns-clause-few g c =
     tuples-few (g.R.RowsOf.tables c.args.rows.now) (g.R.RowsOf.keys c.args.rows.now) (g.R.RowsOf.partitions c.args.rows.now) c.args.query.now c.requires.known
-    (g.R.RowsOf.few c.args.rows.now) c.in_ok-tuples.tuples.tuples (c.in_ok-tuples.ensures.all (can-prune (g.R.RowsOf.tables c.args.rows.now) (g.R.RowsOf.keys c.args.rows.now) (g.R.RowsOf.partitions c.args.rows.now) c.args.query.now c.requires.known))
+    (g.R.RowsOf.few c.args.rows.now) c.in_ok-tuples.tuples (c.in_ok-tuples.ensures.all (can-prune (g.R.RowsOf.tables c.args.rows.now) (g.R.RowsOf.keys c.args.rows.now) (g.R.RowsOf.partitions c.args.rows.now) c.args.query.now c.requires.known))
 
 pub returns-clause-small : goal.returns-clause-small
 returns-clause-small g c =
     tuples-small (g.R.RowsOf.tables c.args.rows.now) (g.R.RowsOf.keys c.args.rows.now) (g.R.RowsOf.partitions c.args.rows.now) c.args.query.now c.requires.known
-    (g.R.RowsOf.small c.args.rows.now) c.in_ok-tuples.tuples.tuples (c.in_ok-tuples.ensures.all (can-prune (g.R.RowsOf.tables c.args.rows.now) (g.R.RowsOf.keys c.args.rows.now) (g.R.RowsOf.partitions c.args.rows.now) c.args.query.now c.requires.known))
+    (g.R.RowsOf.small c.args.rows.now) c.in_ok-tuples.tuples (c.in_ok-tuples.ensures.all (can-prune (g.R.RowsOf.tables c.args.rows.now) (g.R.RowsOf.keys c.args.rows.now) (g.R.RowsOf.partitions c.args.rows.now) c.args.query.now c.requires.known))

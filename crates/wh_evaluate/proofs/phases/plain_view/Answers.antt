@@ -8,5 +8,5 @@ use Rattle.wh_evaluate.proofs.phases.plain_view.Goals as goal
 pub returns : goal.returns
 returns c =
     subst (λ (stored : List ViewEntry). IfOk c.sort_entries.result (λ rows. rows ≡ stored))
-    (ap (sorted_by entry_cmp) c.in_ok-plain_entries.ensures ∙ plain-stored c.args.query.now c.args.tuples.now.tuples c.requires)
+    (ap (sorted_by entry_cmp) c.in_ok-plain_entries.ensures ∙ plain-stored c.args.query.now c.args.tuples c.requires)
     c.sort_entries.ensures
