@@ -50,7 +50,7 @@ entry_itself x =
     (and_from (x.command == x.command) ((x.part == x.part) && (x.worker == x.worker)) (eq-eqb x.command x.command refl)
     (and_from (x.part == x.part) (x.worker == x.worker) (eq-eqb x.part x.part refl) (eq-eqb x.worker x.worker refl)))
 
-entries_themselves : (xs : List Entry) → same_entries xs xs ≡ true
+pub entries_themselves : (xs : List Entry) → same_entries xs xs ≡ true
 entries_themselves [] = refl
 entries_themselves (x ∷ xs) = and_from (same_entry x x) (same_entries xs xs) (entry_itself x) (entries_themselves xs)
 

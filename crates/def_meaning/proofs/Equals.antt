@@ -1,64 +1,18 @@
 -- Columns equal by joins: the relation is an equality that has each join, and the least one.
 use Rattle.std.proofs.Common.{◌≡◌, ◌∙◌, sym, ap, refl, ℕ, zero, suc, Bool, true, false, cond, not, List, [], ◌∷◌, ◌++◌, length, arith, subst}
-use Rattle.std.proofs.lemmas.Bool.{eq-eqb, eqb-true}
+use Rattle.std.specs.Cmp.{both_ways}
+use Rattle.wh_base.proofs.SameItems.{same_column-Decides, same_column_is}
+use Rattle.std.proofs.lemmas.Bool.{and_from, and_parts, or_left, or_right}
 use Rattle.std.proofs.lemmas.List.{append-nil}
 use Rattle.std.proofs.lemmas.List.Folds.{list_any-append}
 use Rattle.std.specs.List.{list_all}
-use Rattle.std.specs.Prelude.{◌&&◌, ◌==◌, ◌||◌, ◌≤◌, ◌<◌}
-use Rattle.wh_base.specs.Columns.{has_column, same_column, same_part}
-use Rattle.wh_base.specs.declared.columns.ColPart.{ColPart}
-use Rattle.wh_base.specs.declared.columns.ColPart.TheVariants.{Col, Mark, RowId}
+use Rattle.std.specs.Prelude.{◌&&◌, ◌||◌, ◌≤◌, ◌<◌}
+use Rattle.wh_base.specs.Columns.{has_column, same_column}
 use Rattle.wh_base.specs.declared.columns.ColRef.{ColRef}
 use Rattle.wh_base.specs.declared.queries.Edge.{Edge}
 use Rattle.def_meaning.specs.Ranges.{IsEquality, IsKept, are_equal, equal_columns, other_end, spread, spread_times}
 
-both_left : (a b : Bool) → (a && b) ≡ true → a ≡ true
-both_left true b h = refl
-both_left false b h = cc
-
-both_right : (a b : Bool) → (a && b) ≡ true → b ≡ true
-both_right true b h = h
-both_right false b h = cc
-
-both : (a b : Bool) → a ≡ true → b ≡ true → (a && b) ≡ true
-both true b h k = k
-both false b h k = cc
-
-or_left : (a b : Bool) → a ≡ true → (a || b) ≡ true
-or_left true b h = refl
-or_left false b h = cc
-
-or_right : (a b : Bool) → b ≡ true → (a || b) ≡ true
-or_right true b h = refl
-or_right false b h = h
-
--- each of two that implies the other is the same
-same_truth : (a b : Bool) → (a ≡ true → b ≡ true) → (b ≡ true → a ≡ true) → a ≡ b
-same_truth true b f g = sym (f refl)
-same_truth false true f g = g refl
-same_truth false false f g = refl
-
 -- ---- one column
-
-same_part-is : (p q : ColPart) → same_part p q ≡ true → p ≡ q
-same_part-is (Col m) (Col n) h = ap Col (eqb-true m n h)
-same_part-is RowId RowId h = refl
-same_part-is Mark Mark h = refl
-same_part-is p q h = cc
-
-same_column-is : (a b : ColRef) → same_column a b ≡ true → a ≡ b
-same_column-is a b h =
-    let tables : a.table ≡ b.table = eqb-true a.table b.table (both_left (a.table == b.table) (same_part a.part b.part) h) in
-    let parts : a.part ≡ b.part = same_part-is a.part b.part (both_right (a.table == b.table) (same_part a.part b.part) h) in
-    λ i. record { table = tables i; part = parts i }
-
-same_part-itself : (p : ColPart) → same_part p p ≡ true
-same_part-itself (Col n) = eq-eqb n n refl
-same_part-itself RowId = refl
-same_part-itself Mark = refl
-
-same_column-itself : (a : ColRef) → same_column a a ≡ true
-same_column-itself a = both (a.table == a.table) (same_part a.part a.part) (eq-eqb a.table a.table refl) (same_part-itself a.part)
 
 -- ---- lists of columns
 
@@ -72,7 +26,7 @@ in_more cs ds c h = list_any-append (same_column c) cs ds ∙ or_left (has_colum
 has_last : (cs : List ColRef) (c : ColRef) → has_column (cs ++ c ∷ []) c ≡ true
 has_last cs c =
     list_any-append (same_column c) cs (c ∷ [])
-    ∙ or_right (has_column cs c) (has_column (c ∷ []) c) (or_left (same_column c c) false (same_column-itself c))
+    ∙ or_right (has_column cs c) (has_column (c ∷ []) c) (or_left (same_column c c) false ((same_column-Decides c c).1 refl))
 
 spread-in : (es : List Edge) (cs : List ColRef) → AreIn cs (spread es cs)
 spread-in [] cs c h = h
@@ -95,7 +49,7 @@ module _ (test : ColRef → Bool) where
   passes (d ∷ cs) c all h = by (same_column c d) refl h (passes cs c all.1)
     where
       by : (b : Bool) → same_column c d ≡ b → (b || has_column cs c) ≡ true → (has_column cs c ≡ true → test c ≡ true) → test c ≡ true
-      by true e k rest = ap test (same_column-is c d e) ∙ all.0
+      by true e k rest = ap test (same_column_is c d e) ∙ all.0
       by false e k rest = rest k
 
   pass-append : (cs ds : List ColRef) → AllPass cs → AllPass ds → AllPass (cs ++ ds)
@@ -124,7 +78,7 @@ module _ (test : ColRef → Bool) where
 
 -- ---- as many rounds as there are joins reach all
 
--- how many of these joins don't have both columns among these
+-- how many of these joins don't have and_from columns among these
 abbrev pub open_joins : List ColRef → List Edge → ℕ
 open_joins cs [] = 0
 open_joins cs (e ∷ es) = cond (has_column cs e.from && has_column cs e.to) (open_joins cs es) (suc (open_joins cs es))
@@ -141,9 +95,9 @@ open_fall : (cs ds : List ColRef) → AreIn cs ds → (es : List Edge) → open_
 open_fall cs ds in_ [] = omega arith
 open_fall cs ds in_ (e ∷ es) =
     by (has_column cs e.from && has_column cs e.to) (has_column ds e.from && has_column ds e.to)
-    (λ h. both (has_column ds e.from) (has_column ds e.to)
-    (in_ e.from (both_left (has_column cs e.from) (has_column cs e.to) h))
-    (in_ e.to (both_right (has_column cs e.from) (has_column cs e.to) h)))
+    (λ h. and_from (has_column ds e.from) (has_column ds e.to)
+    (in_ e.from (and_parts (has_column cs e.from) (has_column cs e.to) h).0)
+    (in_ e.to (and_parts (has_column cs e.from) (has_column cs e.to) h).1))
     (open_fall cs ds in_ es)
   where
     by : (b c : Bool) → (b ≡ true → c ≡ true) → open_joins ds es ≤ open_joins cs es
@@ -170,11 +124,11 @@ spread-moves : (es : List Edge) (cs : List ColRef) → Move (IsKept (has_column 
 spread-moves [] cs = Stays tt
 spread-moves (e ∷ es) cs = by (has_column cs e.from) (has_column cs e.to) refl refl (spread-moves es cs)
   where
-    -- both columns are in what a round leaves
+    -- and_from columns are in what a round leaves
     closed : (ds : List ColRef) → has_column ds e.from ≡ true → has_column ds e.to ≡ true → (has_column (spread es ds) e.from && has_column (spread es ds) e.to) ≡ true
-    closed ds f g = both (has_column (spread es ds) e.from) (has_column (spread es ds) e.to) (spread-in es ds e.from f) (spread-in es ds e.to g)
+    closed ds f g = and_from (has_column (spread es ds) e.from) (has_column (spread es ds) e.to) (spread-in es ds e.from f) (spread-in es ds e.to g)
 
-    -- as few as that are open where both columns are in
+    -- as few as that are open where and_from columns are in
     falls : (ds : List ColRef) → has_column ds e.from ≡ true → has_column ds e.to ≡ true → open_joins (spread es ds) (e ∷ es) ≡ open_joins (spread es ds) es
     falls ds f g = cond-true (has_column (spread es ds) e.from && has_column (spread es ds) e.to) (open_joins (spread es ds) es) (suc (open_joins (spread es ds) es)) (closed ds f g)
 
@@ -255,7 +209,7 @@ module _ (es : List Edge) where
   equal-kept a = rounds-keep (length es) es (a ∷ []) (open_few (a ∷ []) es)
 
   equal-itself : (a : ColRef) → are_equal es a a ≡ true
-  equal-itself a = rounds-in (length es) es (a ∷ []) a (or_left (same_column a a) false (same_column-itself a))
+  equal-itself a = rounds-in (length es) es (a ∷ []) a (or_left (same_column a a) false ((same_column-Decides a a).1 refl))
 
   equal-third : (a b c : ColRef) → are_equal es a b ≡ true → are_equal es b c ≡ true → are_equal es a c ≡ true
   equal-third a b c h k = equal-passes (are_equal es a) es b c (equal-kept a) h k
@@ -270,7 +224,7 @@ module _ (es : List Edge) where
   turned-kept : (a : ColRef) (ds : List Edge) → ((c : ColRef) → IsKept (are_equal es c) ds) → IsKept (λ c. are_equal es c a) ds
   turned-kept a [] kept = tt
   turned-kept a (e ∷ ds) kept = (
-    same_truth (are_equal es e.from a) (are_equal es e.to a)
+    both_ways (are_equal es e.from a) (are_equal es e.to a)
         (λ h. equal-third e.to e.from a (to-from e (kept e.to).0) h)
         (λ h. equal-third e.from e.to a (from-to e (kept e.from).0) h),
     turned-kept a ds (λ c. (kept c).1),
@@ -282,7 +236,7 @@ module _ (es : List Edge) where
   all-joined : (ds : List Edge) → ((c : ColRef) → IsKept (are_equal es c) ds) → list_all (λ e. are_equal es e.from e.to) ds ≡ true
   all-joined [] kept = refl
   all-joined (e ∷ ds) kept =
-      both (are_equal es e.from e.to) (list_all (λ d. are_equal es d.from d.to) ds) (from-to e (kept e.from).0) (all-joined ds (λ c. (kept c).1))
+      and_from (are_equal es e.from e.to) (list_all (λ d. are_equal es d.from d.to) ds) (from-to e (kept e.from).0) (all-joined ds (λ c. (kept c).1))
 
 -- columns equal by joins are so in the sense of the law
 pub are_equal-is : (edges : List Edge) → IsEquality edges (are_equal edges)
@@ -292,5 +246,5 @@ are_equal-is edges = record {
   over_third = equal-third edges;
   joins = all-joined edges edges (equal-kept edges);
   no_others = λ test kept a b h.
-      same_truth (test a) (test b) (λ t. equal-passes test edges a b kept t h) (λ t. equal-passes test edges b a kept t (equal-turned edges a b h));
+      both_ways (test a) (test b) (λ t. equal-passes test edges a b kept t h) (λ t. equal-passes test edges b a kept t (equal-turned edges a b h));
 }

@@ -1,36 +1,22 @@
 -- The tree that is found from a root has all tables of FROM, and one is found wherever there is one.
 use Rattle.std.proofs.Common.{◌≡◌, ◌∙◌, sym, ap, subst, refl, arith, ℕ, zero, suc, Bool, true, false, cond, not, List, [], ◌∷◌, ◌++◌, length, map}
-use Rattle.std.proofs.lemmas.Bool.{eq-eqb, eqb-true}
+use Rattle.std.specs.Cmp.{both_ways}
+use Rattle.wh_base.proofs.SameItems.{same_column-Decides, same_column_is}
+use Rattle.std.proofs.lemmas.Bool.{and_from, and_parts, eq-eqb, eqb-true, or_left, or_right}
 use Rattle.std.proofs.lemmas.List.Folds.{list_all-append, list_any-append}
 use Rattle.std.specs.List.{list_all, list_any}
 use Rattle.std.specs.Prelude.{None, Option, Some, is_some, nat_eq, ◌&&◌, ◌==◌, ◌||◌, ◌+◌, ◌≤◌}
-use Rattle.wh_base.specs.Columns.{same_column, same_part}
+use Rattle.wh_base.specs.Columns.{same_column}
 use Rattle.wh_base.specs.Lists.{first_of, first_some, has_number, repeated_after, where_true}
-use Rattle.wh_base.specs.declared.columns.ColPart.{ColPart}
-use Rattle.wh_base.specs.declared.columns.ColPart.TheVariants.{Col, Mark, RowId}
-use Rattle.wh_base.specs.declared.columns.ColRef.{ColRef}
 use Rattle.wh_base.specs.declared.queries.Edge.{Edge}
 use Rattle.wh_base.specs.declared.tables.TableDef.{TableDef}
-use Rattle.def_resolve.proofs.Trees.{both, both_left, both_right, directed_leads, tree_from-is, where_is}
+use Rattle.def_resolve.proofs.Trees.{directed_leads, tree_from-is, where_is}
 use Rattle.def_resolve.specs.Star.{IsSpanning, IsStarOf, IsTreeOver, Tree, branch_to, directed, grow, is_key_column, is_one_of, is_repeated_number, leads_outwards, leads_to, next_branch, same_join, spanning, star_of, tree_from, turned, with_branch}
 
 -- ---- tests
 
-or_left : (a b : Bool) → a ≡ true → (a || b) ≡ true
-or_left true b h = refl
-or_left false b h = cc
-
-or_right : (a b : Bool) → b ≡ true → (a || b) ≡ true
-or_right true b h = refl
-or_right false b h = h
-
-same_truth : (a b : Bool) → (a ≡ true → b ≡ true) → (b ≡ true → a ≡ true) → a ≡ b
-same_truth true b f g = sym (f refl)
-same_truth false true f g = g refl
-same_truth false false f g = refl
-
 eq_swap : (m n : ℕ) → (m == n) ≡ (n == m)
-eq_swap m n = same_truth (m == n) (n == m) (λ h. eq-eqb n m (sym (eqb-true m n h))) (λ h. eq-eqb m n (sym (eqb-true n m h)))
+eq_swap m n = both_ways (m == n) (n == m) (λ h. eq-eqb n m (sym (eqb-true m n h))) (λ h. eq-eqb m n (sym (eqb-true n m h)))
 
 none_some : {A : Type 0} (o : Option A) → o ≡ None → is_some o ≡ true → ⊥
 none_some None h k = cc
@@ -165,34 +151,14 @@ are-distinct ns h = (after-distinct [] ns h).1
 
 -- ---- a tree as it grows
 
-same_part-is : (p q : ColPart) → same_part p q ≡ true → p ≡ q
-same_part-is (Col m) (Col n) h = ap Col (eqb-true m n h)
-same_part-is RowId RowId h = refl
-same_part-is Mark Mark h = refl
-same_part-is p q h = cc
-
-same_column-is : (a b : ColRef) → same_column a b ≡ true → a ≡ b
-same_column-is a b h =
-    let tables : a.table ≡ b.table = eqb-true a.table b.table (both_left (a.table == b.table) (same_part a.part b.part) h) in
-    let parts : a.part ≡ b.part = same_part-is a.part b.part (both_right (a.table == b.table) (same_part a.part b.part) h) in
-    λ i. record { table = tables i; part = parts i }
-
-same_part-itself : (p : ColPart) → same_part p p ≡ true
-same_part-itself (Col n) = eq-eqb n n refl
-same_part-itself RowId = refl
-same_part-itself Mark = refl
-
-same_column-itself : (a : ColRef) → same_column a a ≡ true
-same_column-itself a = both (a.table == a.table) (same_part a.part a.part) (eq-eqb a.table a.table refl) (same_part-itself a.part)
-
 same_join-is : (d e : Edge) → same_join d e ≡ true → d ≡ e
 same_join-is d e h =
-    let froms : d.from ≡ e.from = same_column-is d.from e.from (both_left (same_column d.from e.from) (same_column d.to e.to) h) in
-    let tos : d.to ≡ e.to = same_column-is d.to e.to (both_right (same_column d.from e.from) (same_column d.to e.to) h) in
+    let froms : d.from ≡ e.from = same_column_is d.from e.from (and_parts (same_column d.from e.from) (same_column d.to e.to) h).0 in
+    let tos : d.to ≡ e.to = same_column_is d.to e.to (and_parts (same_column d.from e.from) (same_column d.to e.to) h).1 in
     λ i. record { from = froms i; to = tos i }
 
 same_join-itself : (e : Edge) → same_join e e ≡ true
-same_join-itself e = both (same_column e.from e.from) (same_column e.to e.to) (same_column-itself e.from) (same_column-itself e.to)
+same_join-itself e = and_from (same_column e.from e.from) (same_column e.to e.to) ((same_column-Decides e.from e.from).1 refl) ((same_column-Decides e.to e.to).1 refl)
 
 -- the join, as it is written or turned, is the edge
 abbrev pub is_either : Edge → Edge → Bool
@@ -242,8 +208,8 @@ found-leads defs tree n (j ∷ js) e h = by (directed defs tree n j) refl h (fou
     by (Some d) f g rest =
         let same : Some d ≡ Some e = g in
         let leads : leads_to defs tree n e ≡ true = directed_leads defs tree n j e (f ∙ same) in
-        eqb-true e.to.table n (both_left (e.to.table == n) (is_key_column defs e.to)
-        (both_right (has_number tree.tables e.from.table) ((e.to.table == n) && is_key_column defs e.to) leads))
+        eqb-true e.to.table n (and_parts (e.to.table == n) (is_key_column defs e.to)
+        (and_parts (has_number tree.tables e.from.table) ((e.to.table == n) && is_key_column defs e.to) leads).1).0
     by None f g rest = rest g
 
 -- the branch to the first table that can be added: it leads outwards to a table of FROM, and is one of the joins
@@ -303,7 +269,7 @@ grown-step joins from root tree (Some e) once g next =
       inside = λ n k. stays n (has_number tree.tables n) refl (sym (has-append tree.tables (e.to.table ∷ []) n) ∙ k) (e.to.table == n) refl known.0;
       counted = omega (arith, g.counted, outside-less tree.tables e.to.table from once known.1.0 known.0, length-more tree.tables e.to.table);
       by_joins = list_all-append (is_one_of joins) tree.edges (e ∷ [])
-          ∙ both (list_all (is_one_of joins) tree.edges) (list_all (is_one_of joins) (e ∷ [])) g.by_joins (both (is_one_of joins e) true known.1.1 refl);
+          ∙ and_from (list_all (is_one_of joins) tree.edges) (list_all (is_one_of joins) (e ∷ [])) g.by_joins (and_from (is_one_of joins e) true known.1.1 refl);
     }
   where
     stays : (n : ℕ) → (b : Bool) → has_number tree.tables n ≡ b → (has_number tree.tables n || ((e.to.table == n) || false)) ≡ true
@@ -335,7 +301,7 @@ spanning-some defs joins from root once h tree e =
     let whole : IsTreeOver defs joins from root grown.edges = record {
       outwards = is.1;
       by_joins = g.by_joins;
-      all_tables = λ n. ap (λ ts. has_number ts n) (sym is.0) ∙ same_truth (has_number grown.tables n) (has_number from n) (g.inside n) (outside-none grown.tables from none n);
+      all_tables = λ n. ap (λ ts. has_number ts n) (sym is.0) ∙ both_ways (has_number grown.tables n) (has_number from n) (g.inside n) (outside-none grown.tables from none n);
     } in
     subst (λ t. (t.tables ≡ root ∷ map (λ d. d.to.table) t.edges) × IsTreeOver defs joins from root t.edges) said.1 (is.0, whole)
 
@@ -364,8 +330,8 @@ module _ (defs : List TableDef) (joins : List Edge) (from : List ℕ) (tree : Tr
   no-more stuck listed [] out one has within n h = cc
   no-more stuck listed (e ∷ es) out one has within n h =
       by (e.to.table == n) refl h
-      (no-more stuck (listed ++ e.to.table ∷ []) es (both_right first (leads_outwards defs (listed ++ e.to.table ∷ []) es) out)
-      (both_right (is_one_of joins e) (list_all (is_one_of joins) es) one) has-more
+      (no-more stuck (listed ++ e.to.table ∷ []) es (and_parts first (leads_outwards defs (listed ++ e.to.table ∷ []) es) out).1
+      (and_parts (is_one_of joins e) (list_all (is_one_of joins) es) one).1 has-more
       (λ m k. within m (or_right (e.to.table == m) (has_number (map (λ d. d.to.table) es) m) k)) n)
     where
       first : Bool
@@ -373,12 +339,12 @@ module _ (defs : List TableDef) (joins : List Edge) (from : List ℕ) (tree : Tr
 
       leads : leads_to defs tree e.to.table e ≡ true
       leads =
-          let here : first ≡ true = both_left first (leads_outwards defs (listed ++ e.to.table ∷ []) es) out in
-          both (has_number tree.tables e.from.table) ((e.to.table == e.to.table) && is_key_column defs e.to)
-          (has e.from.table (both_left (has_number listed e.from.table) (not (has_number listed e.to.table) && is_key_column defs e.to) here))
-          (both (e.to.table == e.to.table) (is_key_column defs e.to) (eq-eqb e.to.table e.to.table refl)
-          (both_right (not (has_number listed e.to.table)) (is_key_column defs e.to)
-          (both_right (has_number listed e.from.table) (not (has_number listed e.to.table) && is_key_column defs e.to) here)))
+          let here : first ≡ true = (and_parts first (leads_outwards defs (listed ++ e.to.table ∷ []) es) out).0 in
+          and_from (has_number tree.tables e.from.table) ((e.to.table == e.to.table) && is_key_column defs e.to)
+          (has e.from.table (and_parts (has_number listed e.from.table) (not (has_number listed e.to.table) && is_key_column defs e.to) here).0)
+          (and_from (e.to.table == e.to.table) (is_key_column defs e.to) (eq-eqb e.to.table e.to.table refl)
+          (and_parts (not (has_number listed e.to.table)) (is_key_column defs e.to)
+          (and_parts (has_number listed e.from.table) (not (has_number listed e.to.table) && is_key_column defs e.to) here).1).1)
 
       -- the tree has this table
       has-it : (b : Bool) → has_number tree.tables e.to.table ≡ b → has_number tree.tables e.to.table ≡ true
@@ -386,7 +352,7 @@ module _ (defs : List TableDef) (joins : List Edge) (from : List ℕ) (tree : Tr
       has-it false f =
           absurd (none_some (next_branch defs joins from tree) stuck
           (can-go-on e (within e.to.table (or_left (e.to.table == e.to.table) (has_number (map (λ d. d.to.table) es) e.to.table) (eq-eqb e.to.table e.to.table refl)))
-          (can-branch e (both_left (is_one_of joins e) (list_all (is_one_of joins) es) one) leads f)))
+          (can-branch e (and_parts (is_one_of joins e) (list_all (is_one_of joins) es) one).0 leads f)))
 
       in-more : (m : ℕ) → (b : Bool) → has_number listed m ≡ b → (c : Bool) → (e.to.table == m) ≡ c → (b || (c || false)) ≡ true → has_number tree.tables m ≡ true
       in-more m true f c g k = has m f

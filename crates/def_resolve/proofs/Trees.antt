@@ -3,7 +3,7 @@
 use Rattle.std.proofs.Common.{◌≡◌, ◌∙◌, sym, ap, subst, refl, ℕ, Bool, true, false, cond, not, List, [], ◌∷◌, ◌++◌, length, map}
 use Rattle.std.specs.List.{list_all}
 use Rattle.std.specs.Prelude.{None, Ok, Option, Result, Some, is_some, suc, unwrap_or, zero, ◌&&◌, ◌==◌, ◌||◌, ◌+◌}
-use Rattle.std.proofs.lemmas.Bool.{eqb-true}
+use Rattle.std.proofs.lemmas.Bool.{and_from, and_parts, eqb-true}
 use Rattle.std.proofs.lemmas.List.{append_assoc, append-nil, map-append}
 use Rattle.wh_base.specs.Lists.{first_of, first_some, has_number, head, or_refuse, unless, unless_then, where_true, ◌>>=◌}
 use Rattle.wh_base.specs.declared.columns.ColRef.{ColRef}
@@ -19,18 +19,6 @@ use Rattle.def_resolve.specs.Star.{IsTreeFrom, Tree, branch_to, directed, grow, 
 use Rattle.def_resolve.specs.Resolve.{IsStar, first_table, grouping_holds, is_grouped, item_is_grouped, joins_of, kinds_refusal, order_item, resolve, resolved_item, star_form, star_query}
 
 -- ---- tests
-
-pub both_left : (a b : Bool) → (a && b) ≡ true → a ≡ true
-both_left true b h = refl
-both_left false b h = cc
-
-pub both_right : (a b : Bool) → (a && b) ≡ true → b ≡ true
-both_right true b h = h
-both_right false b h = cc
-
-pub both : (a b : Bool) → a ≡ true → b ≡ true → (a && b) ≡ true
-both true b h k = k
-both false b h k = cc
 
 -- ---- what the first of some options satisfies
 
@@ -56,13 +44,13 @@ IsBranch defs tables e = (has_number tables e.from.table && (not (has_number tab
 
 branch_leads : (defs : List TableDef) (tree : Tree) (n : ℕ) (e : Edge) → has_number tree.tables n ≡ false → leads_to defs tree n e ≡ true → IsBranch defs tree.tables e
 branch_leads defs tree n e outside h =
-    let rest : ((e.to.table == n) && is_key_column defs e.to) ≡ true = both_right (has_number tree.tables e.from.table) ((e.to.table == n) && is_key_column defs e.to) h in
-    let at : e.to.table ≡ n = eqb-true e.to.table n (both_left (e.to.table == n) (is_key_column defs e.to) rest) in
-    both (has_number tree.tables e.from.table) (not (has_number tree.tables e.to.table) && is_key_column defs e.to)
-    (both_left (has_number tree.tables e.from.table) ((e.to.table == n) && is_key_column defs e.to) h)
-    (both (not (has_number tree.tables e.to.table)) (is_key_column defs e.to)
+    let rest : ((e.to.table == n) && is_key_column defs e.to) ≡ true = (and_parts (has_number tree.tables e.from.table) ((e.to.table == n) && is_key_column defs e.to) h).1 in
+    let at : e.to.table ≡ n = eqb-true e.to.table n (and_parts (e.to.table == n) (is_key_column defs e.to) rest).0 in
+    and_from (has_number tree.tables e.from.table) (not (has_number tree.tables e.to.table) && is_key_column defs e.to)
+    (and_parts (has_number tree.tables e.from.table) ((e.to.table == n) && is_key_column defs e.to) h).0
+    (and_from (not (has_number tree.tables e.to.table)) (is_key_column defs e.to)
     (ap not (ap (has_number tree.tables) at ∙ outside))
-    (both_right (e.to.table == n) (is_key_column defs e.to) rest))
+    (and_parts (e.to.table == n) (is_key_column defs e.to) rest).1)
 
 pub directed_leads : (defs : List TableDef) (tree : Tree) (n : ℕ) (j e : Edge) → directed defs tree n j ≡ Some e → leads_to defs tree n e ≡ true
 directed_leads defs tree n j e h = by (leads_to defs tree n j) refl h
@@ -87,13 +75,13 @@ outwards-push :
     → leads_outwards defs listed (es ++ e ∷ []) ≡ true
 outwards-push defs listed [] e h k =
     let here : IsBranch defs listed e = subst (λ ts. IsBranch defs ts e) (append-nil listed) k in
-    both (has_number listed e.from.table && (not (has_number listed e.to.table) && is_key_column defs e.to)) true here refl
+    and_from (has_number listed e.from.table && (not (has_number listed e.to.table) && is_key_column defs e.to)) true here refl
 outwards-push defs listed (f ∷ fs) e h k =
     let first : Bool = has_number listed f.from.table && (not (has_number listed f.to.table) && is_key_column defs f.to) in
-    both first (leads_outwards defs (listed ++ f.to.table ∷ []) (fs ++ e ∷ []))
-    (both_left first (leads_outwards defs (listed ++ f.to.table ∷ []) fs) h)
+    and_from first (leads_outwards defs (listed ++ f.to.table ∷ []) (fs ++ e ∷ []))
+    (and_parts first (leads_outwards defs (listed ++ f.to.table ∷ []) fs) h).0
     (outwards-push defs (listed ++ f.to.table ∷ []) fs e
-    (both_right first (leads_outwards defs (listed ++ f.to.table ∷ []) fs) h)
+    (and_parts first (leads_outwards defs (listed ++ f.to.table ∷ []) fs) h).1
     (subst (λ ts. IsBranch defs ts e) (sym (append_assoc listed (f.to.table ∷ []) (map (λ x. x.to.table) fs))) k))
 
 with_branch-is : (defs : List TableDef) (root : ℕ) (tree : Tree) (o : Option Edge) → IsTreeFrom defs root tree.tables tree.edges → ((e : Edge) → o ≡ Some e → IsBranch defs tree.tables e) → IsTreeFrom defs root (with_branch tree o).tables (with_branch tree o).edges
@@ -167,7 +155,7 @@ star_form-is defs raw sources q h =
     unless-is (grouping_holds raw column items keys) NotGrouped (star_query raw column tree) q found.1.1 in
     let groups : (is_grouped raw items ≡ true) → list_all (item_is_grouped keys) items ≡ true =
     grouped_or (is_grouped raw items) (list_all (item_is_grouped keys) items)
-    (both_left (not (is_grouped raw items) || list_all (item_is_grouped keys) items) (list_all (λ k. is_some (order_item raw column items k.what)) raw.order) said.0) in
+    (and_parts (not (is_grouped raw items) || list_all (item_is_grouped keys) items) (list_all (λ k. is_some (order_item raw column items k.what)) raw.order) said.0).0 in
     subst (IsStar defs) said.1
     ((root_is defs tree (star_of-is defs (joins_of column raw) (map (λ s. s.table) sources) tree found.1.0)), groups)
 

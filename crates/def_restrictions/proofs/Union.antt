@@ -1,5 +1,6 @@
 -- The union of intervals has a value exactly where one of them has it, and its intervals ascend and are apart.
 use Rattle.std.proofs.Common.{◌≡◌, ◌∙◌, sym, ap, refl, Bool, true, false, cond, List, [], ◌∷◌}
+use Rattle.std.proofs.Math.Bool.{or-false, or-true, or_assoc}
 use Rattle.std.specs.List.{list_any}
 use Rattle.std.specs.Prelude.{Option, None, Some, ◌&&◌, ◌||◌}
 use Rattle.std.specs.Cmp.{IsTotalOrder}
@@ -36,14 +37,6 @@ not_above Less h = cc
 not_above Equal h = refl
 not_above Greater h = refl
 
-or_true : (b : Bool) → (b || true) ≡ true
-or_true true = refl
-or_true false = refl
-
-or_assoc : (a b c : Bool) → ((a || b) || c) ≡ (a || (b || c))
-or_assoc true b c = refl
-or_assoc false b c = refl
-
 or_swap : (a b c : Bool) → (a || (b || c)) ≡ (b || (a || c))
 or_swap true true c = refl
 or_swap true false c = refl
@@ -53,7 +46,7 @@ or_swap false false c = refl
 -- below the greater of two upper bounds is below one of them
 below_greater : (v : Value) (h k : Option Value) → below_hi v (greater_hi h k) ≡ (below_hi v h || below_hi v k)
 below_greater v None k = refl
-below_greater v (Some a) None = sym (or_true (is_lt (value_cmp v a)))
+below_greater v (Some a) None = sym (or-true (is_lt (value_cmp v a)))
 below_greater v (Some a) (Some b) = by (is_lt (value_cmp a b)) refl (is_lt (value_cmp v a)) refl (is_lt (value_cmp v b)) refl
   where
     by :
@@ -145,10 +138,6 @@ sort-has v done (i ∷ is) =
     ∙ or_swap (any_has v is) (interval_has i v) (any_has v done)
     ∙ sym (or_assoc (interval_has i v) (any_has v is) (any_has v done))
 
-or_none : (b : Bool) → (b || false) ≡ b
-or_none true = refl
-or_none false = refl
-
 pub interval_total : IsTotalOrder interval_cmp
 interval_total = on_total (λ i. i.lo) (options_total value_total)
 
@@ -157,7 +146,7 @@ pub union-has : (v : Value) (is : List Interval) → any_has v (union_of is) ≡
 union-has v is =
     merged-has v (sorted_by interval_cmp is) (sorted_ascends interval_cmp interval_total is)
     ∙ sort-has v [] is
-    ∙ or_none (any_has v is)
+    ∙ or-false (any_has v is)
 
 -- ---- the intervals of the union
 

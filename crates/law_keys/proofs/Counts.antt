@@ -1,17 +1,12 @@
 -- How many items of a list pass a test: after an append, a change of one place, under a map and a filter, and of the first few items.
-use Rattle.std.proofs.Common.{◌≡◌, sym, ap, refl, arith, ℕ, zero, suc, ◌+◌, ◌<◌, ◌≤◌, Bool, true, false, cond, ◌&&◌, ◌||◌, List, [], ◌∷◌, ◌++◌, map, length, None, Some, slice_get, slice_set, true≢false}
+use Rattle.std.proofs.Common.{◌≡◌, sym, ap, refl, arith, ℕ, zero, suc, ◌+◌, ◌<◌, ◌≤◌, Bool, true, false, cond, ◌&&◌, ◌||◌, List, [], ◌∷◌, ◌++◌, map, length, Some, slice_get, slice_set, true≢false}
+use Rattle.std.proofs.lemmas.Option.{none-some, same_Some}
 use Rattle.std.specs.List.{filter, list_any}
 use Rattle.wh_base.proofs.Sorting.{times}
 
 -- 1 for one that passes
 abbrev pub weight : Bool → ℕ
 weight b = cond b 1 0
-
-pub none_not_some : {A : Type 0} (x : A) → None ≡ Some x → ⊥
-none_not_some x e = cc
-
-pub some_same : {A : Type 0} (x y : A) → Some x ≡ Some y → x ≡ y
-some_same x y e = cc
 
 pub length_filter : {A : Type 0} (p : A → Bool) (xs : List A) → length (filter p xs) ≡ times p xs
 length_filter p [] = refl
@@ -28,9 +23,9 @@ times_append p [] y = omega arith
 times_append p (x ∷ xs) y = omega (arith, times_append p xs y)
 
 pub times_set : {A : Type 0} (p : A → Bool) (xs : List A) (place : ℕ) (x y : A) → slice_get xs place ≡ Some x → times p (slice_set xs place y) + weight (p x) ≡ times p xs + weight (p y)
-times_set p [] place x y e = absurd (none_not_some x e)
+times_set p [] place x y e = absurd (none-some x e)
 times_set p (w ∷ ws) zero x y e =
-    let same : weight (p w) ≡ weight (p x) = ap (λ z. weight (p z)) (some_same w x e) in
+    let same : weight (p w) ≡ weight (p x) = ap (λ z. weight (p z)) (same_Some w x e) in
     omega (arith, same)
 times_set p (w ∷ ws) (suc place) x y e = omega (arith, times_set p ws place x y e)
 
@@ -53,10 +48,10 @@ first_append p (suc n) (x ∷ xs) y h = ap (λ m. weight (p x) + m) (first_appen
 
 pub first_set : {A : Type 0} (p : A → Bool) (n : ℕ) (xs : List A) (place : ℕ) (x y : A) → place < n → slice_get xs place ≡ Some x
     → first_times p n (slice_set xs place y) + weight (p x) ≡ first_times p n xs + weight (p y)
-first_set p n [] place x y h e = absurd (none_not_some x e)
+first_set p n [] place x y h e = absurd (none-some x e)
 first_set p zero (w ∷ ws) place x y h e = absurd (omega (arith, h))
 first_set p (suc n) (w ∷ ws) zero x y h e =
-    let same : weight (p w) ≡ weight (p x) = ap (λ z. weight (p z)) (some_same w x e) in
+    let same : weight (p w) ≡ weight (p x) = ap (λ z. weight (p z)) (same_Some w x e) in
     omega (arith, same)
 first_set p (suc n) (w ∷ ws) (suc place) x y h e = omega (arith, first_set p n ws place x y (omega (arith, h)) e)
 

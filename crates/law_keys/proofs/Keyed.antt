@@ -1,12 +1,13 @@
 -- What an index of a key has after entries were taken out and others put in.
 use Rattle.std.proofs.Common.{◌≡◌, ◌∙◌, sym, ap, refl, subst, arith, ℕ, ◌+◌, ◌≤◌, Bool, true, false, cond, ◌||◌, List, [], ◌∷◌, None, Some, is_some}
+use Rattle.std.proofs.lemmas.Option.{none-some, same_Some}
 use Rattle.std.specs.FinMap as fin
 use Rattle.std.specs.List.{list_any}
 use Rattle.wh_base.specs.Values.{same_value}
 use Rattle.wh_base.specs.ValueLaws.{value_total}
 use Rattle.wh_base.specs.declared.values.Value.{Value}
 use Rattle.law_keys.proofs.Changed.{entries_with, is_of}
-use Rattle.law_keys.proofs.Counts.{none_any, none_not_some, some_any, some_same, weight, weight_none, weight_one}
+use Rattle.law_keys.proofs.Counts.{none_any, some_any, weight, weight_none, weight_one}
 use Rattle.law_keys.proofs.Repeated.{same_by_cmp, same_is, same_itself}
 use Rattle.wh_keys.specs.Indexes.{Places, rows_with, with_keys, without_keys}
 use Rattle.wh_table.proofs.Ordered.{Each}
@@ -59,7 +60,7 @@ pub found_without : (es : List (Value × ℕ)) (m : Places) (v : Value) (p : ℕ
 found_without es m v p h = by (list_any (is_of v) es) refl (sym (get_without es m v) ∙ h)
   where
     by : (b : Bool) → list_any (is_of v) es ≡ b → cond b None (fin.get m v) ≡ Some p → (fin.get m v ≡ Some p) × (entries_with v es ≡ 0)
-    by true e k = absurd (none_not_some p k)
+    by true e k = absurd (none-some p k)
     by false e k = (k, none_any (is_of v) es e)
 
 -- ---- entries put in
@@ -74,31 +75,31 @@ rows_more m k p v absent = ap (λ o. weight (is_some o)) (get_inserted m k p v) 
     by false e = omega arith
 
 pub rows_put : (es : List (Value × ℕ)) (m n : Places) (v : Value) → with_keys es m ≡ Some n → rows_with v n ≡ rows_with v m + entries_with v es
-rows_put [] m n v h = let same : rows_with v m ≡ rows_with v n = ap (rows_with v) (some_same m n h) in omega (arith, same)
+rows_put [] m n v h = let same : rows_with v m ≡ rows_with v n = ap (rows_with v) (same_Some m n h) in omega (arith, same)
 rows_put (e ∷ es) m n v h = by (is_some (fin.get m e.0)) refl h (rows_put es (fin.insert m e.0 e.1) n v)
   where
     by : (b : Bool) → is_some (fin.get m e.0) ≡ b → cond b None (with_keys es (fin.insert m e.0 e.1)) ≡ Some n
         → (with_keys es (fin.insert m e.0 e.1) ≡ Some n → rows_with v n ≡ rows_with v (fin.insert m e.0 e.1) + entries_with v es)
         → rows_with v n ≡ rows_with v m + (weight (same_value v e.0) + entries_with v es)
-    by true absent k more = absurd (none_not_some n k)
+    by true absent k more = absurd (none-some n k)
     by false absent k more = omega (arith, more k, rows_more m e.0 e.1 v absent)
 
 -- what is found then was there before or came
 pub found_put : (P : Value → ℕ → Type 0) (es : List (Value × ℕ)) (m n : Places) → with_keys es m ≡ Some n → Each (λ e. P e.0 e.1) es
     → ((v : Value) (p : ℕ) → fin.get m v ≡ Some p → P v p) → (v : Value) (p : ℕ) → fin.get n v ≡ Some p → P v p
-found_put P [] m n h all before = λ v p k. before v p (ap (λ i. fin.get i v) (some_same m n h) ∙ k)
+found_put P [] m n h all before = λ v p k. before v p (ap (λ i. fin.get i v) (same_Some m n h) ∙ k)
 found_put P (e ∷ es) m n h all before = by (is_some (fin.get m e.0)) h (λ k. found_put P es (fin.insert m e.0 e.1) n k all.1 now)
   where
     now : (v : Value) (p : ℕ) → fin.get (fin.insert m e.0 e.1) v ≡ Some p → P v p
     now v p k = one (same_value v e.0) refl (sym (get_inserted m e.0 e.1 v) ∙ k)
       where
         one : (b : Bool) → same_value v e.0 ≡ b → cond b (Some e.1) (fin.get m v) ≡ Some p → P v p
-        one true f j = subst (λ u. P u p) (sym (same_is v e.0 f)) (subst (λ q. P e.0 q) (some_same e.1 p j) all.0)
+        one true f j = subst (λ u. P u p) (sym (same_is v e.0 f)) (subst (λ q. P e.0 q) (same_Some e.1 p j) all.0)
         one false f j = before v p j
 
     by : (b : Bool) → cond b None (with_keys es (fin.insert m e.0 e.1)) ≡ Some n → (with_keys es (fin.insert m e.0 e.1) ≡ Some n → (v : Value) (p : ℕ) → fin.get n v ≡ Some p → P v p)
         → (v : Value) (p : ℕ) → fin.get n v ≡ Some p → P v p
-    by true k more = absurd (none_not_some n k)
+    by true k more = absurd (none-some n k)
     by false k more = more k
 
 -- a value that two rows would have
@@ -108,7 +109,7 @@ pub record Clash (es : List (Value × ℕ)) (m : Places) : Type 0 where
   pub twice : 2 ≤ rows_with value m + entries_with value es
 
 pub clash_put : (es : List (Value × ℕ)) (m : Places) → with_keys es m ≡ None → Clash es m
-clash_put [] m h = absurd (none_not_some m (sym h))
+clash_put [] m h = absurd (none-some m (sym h))
 clash_put (e ∷ es) m h = by (is_some (fin.get m e.0)) refl h (clash_put es (fin.insert m e.0 e.1))
   where
     by : (b : Bool) → is_some (fin.get m e.0) ≡ b → cond b None (with_keys es (fin.insert m e.0 e.1)) ≡ None → (with_keys es (fin.insert m e.0 e.1) ≡ None → Clash es (fin.insert m e.0 e.1)) → Clash (e ∷ es) m

@@ -1,5 +1,6 @@
 -- What the indexes say of changes is what the definition asks of all parents and children after them.
 use Rattle.std.proofs.Common.{◌≡◌, ◌∙◌, sym, ap, refl, arith, ℕ, zero, suc, ◌+◌, ◌≤◌, Bool, true, false, cond, not, ◌&&◌, ◌||◌, List, [], ◌∷◌, map, Option, None, Some, is_none, is_some, nat_lt, true≢false, lt-ltb}
+use Rattle.std.proofs.lemmas.Bool.{and_from, and_parts}
 use Rattle.std.specs.FinMap as fin
 use Rattle.std.specs.List.{list_any}
 use Rattle.wh_base.proofs.Sorting.{times}
@@ -173,13 +174,6 @@ above_none (suc n) e = omega arith
 none_above : (n : ℕ) → 1 ≤ n → nat_lt 0 n ≡ true
 none_above n h = lt-ltb 0 n h
 
-and_both : (a b : Bool) → (a && b) ≡ true → (a ≡ true) × (b ≡ true)
-and_both true b e = (refl, e)
-and_both false b e = absurd (true≢false (sym e))
-
-both_and : (a b : Bool) → a ≡ true → b ≡ true → (a && b) ≡ true
-both_and a b e f = ap (λ c. c && b) e ∙ f
-
 module _ (scn : ℕ) (s c : Stored) (f : ForeignDef) (cs : List RowChange) (n : Places) (m : Values) (in_time : last_scn s.versions ≤ scn) (child_in_time : last_scn c.versions ≤ scn) (placed : ArePlaced scn s cs)
     (fit : KeyFits (all_made scn cs s) f.to n) (values : ValuesFit c f.column m) (held : list_any (lacks (column_values (seen scn s) f.to)) (column_values (seen scn c) f.column) ≡ false) where
   keys_in_time : last_scn (all_made scn cs s).versions ≤ scn
@@ -205,14 +199,14 @@ module _ (scn : ℕ) (s c : Stored) (f : ForeignDef) (cs : List RowChange) (n : 
       let counted = places_counted c f.column m d.value values in
       let shown = values_seen d.value f.column scn c child_in_time in
       any_entry (λ v. is_none (fin.get n v) && nat_lt 0 (places_with v m)) d.value (going f.to cs)
-      (both_and (is_none (fin.get n d.value)) (nat_lt 0 (places_with d.value m)) (none_absent n d.value (omega (arith, tallied, no_parent))) (none_above (places_with d.value m) (omega (arith, counted, shown, d.there))))
+      (and_from (is_none (fin.get n d.value)) (nat_lt 0 (places_with d.value m)) (none_absent n d.value (omega (arith, tallied, no_parent))) (none_above (places_with d.value m) (omega (arith, counted, shown, d.there))))
       (omega (arith, before, after, no_parent))
 
   with_goes : list_any (λ e. is_none (fin.get n e.0) && nat_lt 0 (places_with e.0 m)) (going f.to cs) ≡ true
       → list_any (lacks (column_values (seen scn (all_made scn cs s)) f.to)) (column_values (seen scn c) f.column) ≡ true
   with_goes h =
       let d = found_entry (λ v. is_none (fin.get n v) && nat_lt 0 (places_with v m)) (going f.to cs) h in
-      let both = and_both (is_none (fin.get n d.value)) (nat_lt 0 (places_with d.value m)) d.passes in
+      let both = and_parts (is_none (fin.get n d.value)) (nat_lt 0 (places_with d.value m)) d.passes in
       let tallied = fit.tallied d.value (going_value d.value f.to cs d.there) in
       let absent = absent_none n d.value both.0 in
       let some = above_none (places_with d.value m) both.1 in

@@ -1,5 +1,6 @@
 -- Which value stands at each place after changes of a table's rows.
 use Rattle.std.proofs.Common.{◌≡◌, ◌∙◌, sym, ap, refl, subst, arith, ℕ, zero, suc, ◌+◌, ◌<◌, ◌≤◌, Bool, true, false, List, [], ◌∷◌, ◌++◌, length, Option, None, Some, slice_get, slice_set}
+use Rattle.std.proofs.lemmas.Option.{none-some, same_Some}
 use Rattle.std.proofs.lemmas.List.{length_push}
 use Rattle.std.specs.List.{cons_option}
 use Rattle.std.specs.Option.{ForSome}
@@ -11,7 +12,7 @@ use Rattle.wh_dml.specs.Placed.{AreNext, StandsAt, all_made, made, made_of}
 use Rattle.wh_dml.specs.declared.changes.PlacedRow.{PlacedRow}
 use Rattle.wh_dml.specs.declared.changes.RowChange.{RowChange}
 use Rattle.law_keys.proofs.Changed.{IsBelow, Stands, entries_more, entries_with, entry_of, has_entry, live_value, stands, step_length}
-use Rattle.law_keys.proofs.Counts.{none_not_some, some_same, weight, weight_one}
+use Rattle.law_keys.proofs.Counts.{weight, weight_one}
 use Rattle.law_keys.proofs.Repeated.{same_itself}
 use Rattle.law_keys.specs.Fitting.{value_in, value_of_row}
 use Rattle.wh_keys.specs.Indexes.{coming, entry_in, going}
@@ -35,7 +36,7 @@ get_other (v ∷ vs) (suc k) zero w h = refl
 get_other (v ∷ vs) (suc k) (suc p) w h = get_other vs k p w (λ e. h (ap suc e))
 
 get_set : (vs : List Version) (k : ℕ) (v w : Version) → slice_get vs k ≡ Some v → slice_get (slice_set vs k w) k ≡ Some w
-get_set [] k v w e = absurd (none_not_some v e)
+get_set [] k v w e = absurd (none-some v e)
 get_set (u ∷ vs) zero v w e = refl
 get_set (u ∷ vs) (suc k) v w e = get_set vs k v w e
 
@@ -54,7 +55,7 @@ get_past [] = refl
 get_past (v ∷ vs) = get_past vs
 
 get_within : (vs : List Version) (p : ℕ) (v : Version) → slice_get vs p ≡ Some v → p < length vs
-get_within [] p v e = absurd (none_not_some v e)
+get_within [] p v e = absurd (none-some v e)
 get_within (w ∷ vs) zero v e = omega arith
 get_within (w ∷ vs) (suc p) v e = omega (arith, get_within vs p v e)
 
@@ -159,15 +160,15 @@ kept v column scn s (c ∷ cs) p h there none =
     (omega (arith, more, none))
   where
     within : (o : Option Version) → slice_get s.versions p ≡ o → option_case o None (value_in column) ≡ Some v → p < length s.versions
-    within None e k = absurd (none_not_some v k)
+    within None e k = absurd (none-some v k)
     within (Some w) e k = get_within s.versions p w e
 
     has_it : (b : Bool) (x : Value) (place : ℕ) → where_true b x ≡ Some v → has_entry v (where_true b (x, place)) ≡ true
-    has_it true x place e = ap (λ u. same_of u) (some_same x v e) ∙ same_itself v
+    has_it true x place e = ap (λ u. same_of u) (same_Some x v e) ∙ same_itself v
       where
         same_of : Value → Bool
         same_of u = has_entry v (Some (u, place))
-    has_it false x place e = absurd (none_not_some v e)
+    has_it false x place e = absurd (none-some v e)
 
     not_its : (q : PlacedRow) → c.old ≡ Some q → p ≡ q.place → weight (has_entry v (entry_of column c.old)) ≡ 0 → ⊥
     not_its q is e none_left =

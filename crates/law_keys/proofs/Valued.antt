@@ -1,5 +1,6 @@
 -- What an index of a foreign key has after changes of a table's rows, and how many of its places have a value.
 use Rattle.std.proofs.Common.{◌≡◌, ◌∙◌, sym, ap, refl, subst, arith, ℕ, zero, suc, ◌+◌, ◌<◌, ◌≤◌, Bool, true, false, cond, List, [], ◌∷◌, ◌++◌, fold, length, map, Option, None, Some, nat_cmp, true≢false}
+use Rattle.std.proofs.lemmas.Option.{none-some, same_Some}
 use Rattle.std.specs.Cmp.{nat_cmp_total, eq_by_cmp_equiv}
 use Rattle.std.specs.FinMap as fin
 use Rattle.std.specs.List.{cons_option, filter}
@@ -15,7 +16,7 @@ use Rattle.wh_dml.specs.Placed.{AreNext, ArePlaced, StandsAt, all_made, made, ma
 use Rattle.wh_dml.specs.declared.changes.PlacedRow.{PlacedRow}
 use Rattle.wh_dml.specs.declared.changes.RowChange.{RowChange}
 use Rattle.law_keys.proofs.Changed.{IsBelow, entry_of, stands, step_length}
-use Rattle.law_keys.proofs.Counts.{length_filter, none_not_some, some_same, weight}
+use Rattle.law_keys.proofs.Counts.{length_filter, weight}
 use Rattle.law_keys.proofs.Standing.{born_other, born_there, ended_other, ended_there, get_past, stood_there, value_there}
 use Rattle.law_keys.proofs.Told.{below_all}
 use Rattle.law_keys.specs.Fitting.{ValuesFit, count_in, has_value, value_in, value_of_row}
@@ -182,12 +183,12 @@ going_below column n (c ∷ cs) below = by c.old below.0 (going_below column n c
     by (Some q) under rest = one q (not_null (value_at q.values column)) (under q refl) rest
 
 coming_past : (column n : ℕ) (o : Option PlacedRow) → ForSome o (λ r. n ≤ r.place) → ForSome (entry_of column o) (λ e. n ≤ e.1)
-coming_past column n None past e is = absurd (none_not_some e is)
+coming_past column n None past e is = absurd (none-some e is)
 coming_past column n (Some r) past e is = by (not_null (value_at r.values column)) is
   where
     by : (b : Bool) → where_true b (value_at r.values column, r.place) ≡ Some e → n ≤ e.1
-    by true f = subst (λ d. n ≤ d.1) (some_same (value_at r.values column, r.place) e f) (past r refl)
-    by false f = absurd (none_not_some e f)
+    by true f = subst (λ d. n ≤ d.1) (same_Some (value_at r.values column, r.place) e f) (past r refl)
+    by false f = absurd (none-some e f)
 
 all_exact : (column scn n : ℕ) (s : Stored) (cs : List RowChange) (m : Values) → AreNext scn s cs → Each (IsBelow n) cs → n ≤ length s.versions
     → IsExact column m s.versions → IsExact column (values_changed column cs m) (all_made scn cs s).versions

@@ -1,5 +1,6 @@
 -- The install of a list moves all of its views or none.
 use Rattle.std.proofs.Common.{◌≡◌, ◌∙◌, sym, ap, subst, refl, arith, ℕ, Bool, true, false, cond, not, List, [], ◌∷◌, ◌++◌, length, map, Option, Some, None, ◌==◌, ◌||◌, true≢false}
+use Rattle.std.proofs.lemmas.Option.{none-some, same_Some}
 use Rattle.std.specs.List.{cons_option, filter_map, find, list_any}
 use Rattle.std.specs.Prelude.{Err, Ok, Result, is_none, option_and_then, option_map, unwrap_or}
 use Rattle.std.proofs.lemmas.Bool.{eq-eqb, eqb-true, not-true}
@@ -19,7 +20,7 @@ use Rattle.law_lists.proofs.Lists.{list_any-map}
 use Rattle.law_lists.proofs.Options.{none_first, find_passes, none_each}
 use Rattle.law_lists.proofs.Numbers.{differs_turned}
 use Rattle.law_nest_trace.specs.Lists.{AllMoved, AreNumbered, HasMoved, Installed, All_moved, ListsMove, None_moved, moved_by}
-use Rattle.law_trace.proofs.Listed.{Each, Pairs, each_found, each_weaker, find_changed, find_has, none_not_some, some_same, each_unmap}
+use Rattle.law_trace.proofs.Listed.{Each, Pairs, each_found, each_weaker, find_changed, find_has, each_unmap}
 use Rattle.law_nest_trace.proofs.Standing.{changed, found_number, the_number}
 use Rattle.law_nest_trace.proofs.Turns.{Follows, IsOlder, all_turn, differs, has_number_of, is_beneath, turn_within, turns_follow}
 
@@ -41,21 +42,21 @@ unless_fine (Some code) x y e = cc
 
 there_is : {A : Type 0} (o : Option ℕ) (x : A) → where_true (is_none o) x ≡ None → o ≡ Some (unwrap_or o 0)
 there_is (Some p) x e = refl
-there_is None x e = absurd (none_not_some x (sym e))
+there_is None x e = absurd (none-some x (sym e))
 
 pub pointed : (c : Catalog) (done : List Listed) (r : RefreshView) (v : View) (x : Computed) → computed_for c done r v ≡ Ok x → Pointed c done v (new_point c done v)
 pointed c done r v x e = by v.def.beneath refl e
   where
     by : (o : Option ℕ) → v.def.beneath ≡ o → option_case o (computed c v (asked_method r v)) (λ n. unless (nested_refusal c done r v n) (computed_over c done v)) ≡ Ok x → Pointed c done v (new_point c done v)
-    by None h e = ((λ _. ap (λ o. option_case o c.scn (λ n. unwrap_or (point_beneath c done n) 0)) h), (λ n k. absurd (none_not_some n (sym h ∙ k))))
+    by None h e = ((λ _. ap (λ o. option_case o c.scn (λ n. unwrap_or (point_beneath c done n) 0)) h), (λ n k. absurd (none-some n (sym h ∙ k))))
     by (Some m) h e =
         let fine = none_first (where_true (asks_for_less r.method) (NotNested v.def.name)) (where_true (is_none (point_beneath c done m)) (BeneathUnbuilt (name_numbered c m)) ∷ [])
         (unless_fine (nested_refusal c done r v m) (computed_over c done v) x e) in
         let built : point_beneath c done m ≡ Some (unwrap_or (point_beneath c done m) 0)
         = there_is (point_beneath c done m) (BeneathUnbuilt (name_numbered c m)) (none_first (where_true (is_none (point_beneath c done m)) (BeneathUnbuilt (name_numbered c m))) [] fine.1).0 in
         let point : new_point c done v ≡ unwrap_or (point_beneath c done m) 0 = ap (λ o. option_case o c.scn (λ n. unwrap_or (point_beneath c done n) 0)) h in (
-          (λ k. absurd (none_not_some m (sym k ∙ h))),
-          (λ n k. subst (λ j. point_beneath c done j ≡ Some (new_point c done v)) (some_same m n (sym h ∙ k)) (built ∙ ap Some (sym point))),
+          (λ k. absurd (none-some m (sym k ∙ h))),
+          (λ n k. subst (λ j. point_beneath c done j ≡ Some (new_point c done v)) (same_Some m n (sym h ∙ k)) (built ∙ ap Some (sym point))),
         )
 
 -- what is computed is behind what was before
@@ -163,7 +164,7 @@ known : (c : Catalog) (earlier : List (List ℕ)) (name : List ℕ) → name_ref
 known c earlier name e = by (view_named c name) refl (none_first (option_case (view_named c name) (Some (NoSuchObject name)) (λ v. None)) (where_true (has_text earlier name) (NameTaken name) ∷ []) e).0
   where
     by : (o : Option View) → view_named c name ≡ o → option_case o (Some (NoSuchObject name)) (λ v. None) ≡ None → Known c name
-    by None h e = absurd (none_not_some (NoSuchObject name) (sym e))
+    by None h e = absurd (none-some (NoSuchObject name) (sym e))
     by (Some v) h e = (v, h)
 
 all_known : (c : Catalog) (earlier names : List (List ℕ)) → first_after (name_refusal c) earlier names ≡ None → Each (Known c) names
@@ -178,8 +179,8 @@ each_named P f [] h = tt
 each_named {A} {B} P f (x ∷ xs) h = by (f x) refl h (each_named P f xs)
   where
     by : (o : Option B) → f x ≡ o → Each P (cons_option o (filter_map f xs)) → (Each P (filter_map f xs) → Each (λ y. (z : B) → f y ≡ Some z → P z) xs) → Each (λ y. (z : B) → f y ≡ Some z → P z) (x ∷ xs)
-    by None e h k = ((λ z same. absurd (none_not_some z (sym e ∙ same))), k h)
-    by (Some y) e h k = ((λ z same. subst P (some_same y z (sym e ∙ same)) h.0), k h.1)
+    by None e h k = ((λ z same. absurd (none-some z (sym e ∙ same))), k h)
+    by (Some y) e h k = ((λ z same. subst P (same_Some y z (sym e ∙ same)) h.0), k h.1)
 
 find_any : {A : Type 0} (p : A → Bool) (xs : List A) → list_any p xs ≡ true → (x : A) × (find p xs ≡ Some x)
 find_any p [] h = absurd (true≢false (sym h))
@@ -262,7 +263,7 @@ module _ (now c : Catalog) (r : RefreshView) (numbered : AreNumbered c) (names :
       by : (o : Option View) → view_numbered now v.def.view ≡ o
           → option_case o (Some (NoSuchObject v.def.name)) (λ w. where_true (not (option_nat_same v.point w.point)) (Overtaken v.def.name v.point w.point)) ≡ None
           → (w : View) × (view_numbered now v.def.view ≡ Some w)
-      by None h e = absurd (none_not_some (NoSuchObject v.def.name) (sym e))
+      by None h e = absurd (none-some (NoSuchObject v.def.name) (sym e))
       by (Some w) h e = (w, h)
 
   has_moved : (name : List ℕ) (v : View) → view_named c name ≡ Some v → Fits v → HasMoved c now after done name
@@ -273,7 +274,7 @@ module _ (now c : Catalog) (r : RefreshView) (numbered : AreNumbered c) (names :
       let number : at.0.view.def.view ≡ v.def.view
       = eqb-true at.0.view.def.view v.def.view (find_passes (λ l. l.view.def.view == v.def.view) done at.0 at.1) in
       let same : at.0.view ≡ v
-      = some_same at.0.view v (sym (each_found (λ l. IsFound l.view) (λ l. l.view.def.view == v.def.view) done at.0 listed_found at.1) ∙ ap (λ k. find (λ u. u.def.view == k) c.views) number ∙ fits.0.1) in
+      = same_Some at.0.view v (sym (each_found (λ l. IsFound l.view) (λ l. l.view.def.view == v.def.view) done at.0 listed_found at.1) ∙ ap (λ k. find (λ u. u.def.view == k) c.views) number ∙ fits.0.1) in
       let point : Pointed c done v at.0.point
       = subst (λ w. Pointed c done w at.0.point) same (each_found (λ l. Pointed c done l.view l.point) (λ l. l.view.def.view == v.def.view) done at.0 points at.1) in
       let own : there.0.def.view ≡ v.def.view = find_has the_number v.def.view now.views there.0 there.1 in
@@ -326,9 +327,9 @@ pub lists_move_law : ListsMove
 lists_move_law s x r b begun numbered = by_reads (only_reads x)
   where
     by_begun : (o : Option Begun) → o ≡ Some b → Installed b.image s.catalog (option_case o (refused s 0 (NoSuchObject r.name)) (λ d. install_over (ended s x) r d.image)).state.catalog r
-    by_begun None e = absurd (none_not_some b e)
+    by_begun None e = absurd (none-some b e)
     by_begun (Some d) e =
-        subst (λ (f : Begun). Installed b.image s.catalog (install_over (ended s x) r f.image).state.catalog r) (sym (some_same d b e)) (over_moves (ended s x) b.image r numbered)
+        subst (λ (f : Begun). Installed b.image s.catalog (install_over (ended s x) r f.image).state.catalog r) (sym (same_Some d b e)) (over_moves (ended s x) b.image r numbered)
 
     by_reads : (k : Bool) → Installed b.image s.catalog (cond k (refused (ended s x) 0 OnlyReading) (option_case x.begun (refused s 0 (NoSuchObject r.name)) (λ d. install_over (ended s x) r d.image))).state.catalog r
     by_reads true = None_moved refl

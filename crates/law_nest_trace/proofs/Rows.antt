@@ -1,5 +1,6 @@
 -- What a refresh computes of a view over a view is its query over the new rows of the view beneath.
 use Rattle.std.proofs.Common.{◌≡◌, ◌∙◌, sym, ap, subst, refl, ℕ, cond, List, [], ◌∷◌, ◌++◌, map, length, Option, Some, None, ◌==◌}
+use Rattle.std.proofs.lemmas.Option.{none-some, same_Some}
 use Rattle.std.specs.List.{find}
 use Rattle.std.specs.Prelude.{Err, Ok, Result, is_none, option_and_then, option_map, unwrap_or}
 use Rattle.std.proofs.lemmas.Bool.{eqb-true}
@@ -22,7 +23,7 @@ use Rattle.law_nest.proofs.Nested.{nested_means_law}
 use Rattle.law_lists.proofs.Each.{Each-both, Each-given}
 use Rattle.law_lists.proofs.Options.{find_passes}
 use Rattle.law_nest_trace.specs.Rolls.{ListsRoll, OneRolls, Rolls}
-use Rattle.law_trace.proofs.Listed.{Each, each_append, each_found, each_weaker, none_not_some, some_same, each_unmap}
+use Rattle.law_trace.proofs.Listed.{Each, each_append, each_found, each_weaker, each_unmap}
 use Rattle.law_nest_trace.proofs.Moving.{Computes, Made, Pointed, all_pointed, computes, made_views, pointed}
 use Rattle.law_nest_trace.proofs.Standing.{IsGrouped, IsOver, Over, compose_says, found_number}
 use Rattle.law_nest_trace.proofs.Stepping.{Stands, good_of, trace_stands}
@@ -87,9 +88,9 @@ rolls c done h around v n p rows o at point =
       listed = λ l e.
           let here : IsFound c l.view × Rowed c l = each_found (λ m. IsFound c m.view × Rowed c m) (λ m. m.view.def.view == n) done l around e in
           let number : l.view.def.view ≡ n = eqb-true l.view.def.view n (find_passes (λ m. m.view.def.view == n) done l e) in
-          let same : l.view ≡ o.beneath = some_same l.view o.beneath (sym here.0 ∙ ap (λ k. find (λ u. u.def.view == k) c.views) number ∙ o.found) in
+          let same : l.view ≡ o.beneath = same_Some l.view o.beneath (sym here.0 ∙ ap (λ k. find (λ u. u.def.view == k) c.views) number ∙ o.found) in
           let points : l.point ≡ p
-          = some_same l.point p (sym (ap (λ x. first_some (option_map (λ m. m.point) x ∷ option_and_then (λ w. w.point) (view_numbered c n) ∷ [])) e) ∙ point) in
+          = same_Some l.point p (sym (ap (λ x. first_some (option_map (λ m. m.point) x ∷ option_and_then (λ w. w.point) (view_numbered c n) ∷ [])) e) ∙ point) in
           let beneath : l.computed.rows ≡ stored o.beneath.def.query (base_at c p)
           = here.1 ∙ ap (λ (w : View). stored w.def.query (base_at c l.point)) same ∙ ap (λ k. stored o.beneath.def.query (base_at c k)) points in
           rolled ∙ ap (rolled_view o.composed.asked o.beneath.def) (sym beneath);
@@ -101,7 +102,7 @@ rolls c done h around v n p rows o at point =
     }
   where
     lone : (x : Option ℕ) (p : ℕ) → first_some (x ∷ []) ≡ Some p → x ≡ Some p
-    lone None p e = absurd (none_not_some p e)
+    lone None p e = absurd (none-some p e)
     lone (Some m) p e = e
 
 list_rolls : (c : Catalog) → Stands c → (r : RefreshView) (done : List Listed) → computed_list c r ≡ Ok done
@@ -147,7 +148,7 @@ one_rolls_law trace k b r v x begun found is n e = by b.view found
     h = good_of (state_of trace) k (trace_stands trace) b begun
 
     by : (o : Option ℕ) → option_and_then (view_numbered b.image) o ≡ Some v → Rolls b.image [] v n x.rows
-    by None g = absurd (none_not_some v g)
+    by None g = absurd (none-some v g)
     by (Some m) g =
         rolls b.image [] h tt v n (new_point b.image [] v) x.rows (each_found (IsOver b.image.views) (λ u. u.def.view == m) b.image.views v h.over g n e)
         (for_rows b.image [] r v x is) ((pointed b.image [] r v x is).1 n e)

@@ -1,5 +1,6 @@
 -- What every step keeps of the views: their numbers ascend, their plain items are grouped, and each one over a view is composed over it.
 use Rattle.std.proofs.Common.{◌≡◌, ◌∙◌, sym, ap, subst, refl, arith, ℕ, suc, ◌<◌, ◌≤◌, Bool, true, false, cond, not, List, [], ◌∷◌, ◌++◌, map, Option, Some, None, ◌==◌}
+use Rattle.std.proofs.lemmas.Option.{same_Some}
 use Rattle.std.specs.List.{filter, find, list_all}
 use Rattle.std.specs.Prelude.{◌&&◌, option_and_then, option_map}
 use Rattle.std.proofs.lemmas.Bool.{eq-eqb, eqb-true, and_parts}
@@ -14,7 +15,7 @@ use Rattle.def_nest.specs.Compose.{IsComposed, compose, composed_item, composed_
 use Rattle.def_nest.specs.Names.{grouped_column}
 use Rattle.def_resolve.specs.Resolve.{item_is_grouped}
 use Rattle.law_nest.specs.Laws.{ItemsAreGrouped}
-use Rattle.law_trace.proofs.Listed.{Each, Pairs, each_append, each_filter, each_found, each_map, each_weaker, find_changed, find_without, pairs_filter, pairs_map, pairs_push, some_same}
+use Rattle.law_trace.proofs.Listed.{Each, Pairs, each_append, each_filter, each_found, each_map, each_weaker, find_changed, find_without, pairs_filter, pairs_map, pairs_push}
 use Rattle.law_lists.proofs.Each.{Each-both}
 use Rattle.law_lists.proofs.Options.{find_more}
 use Rattle.law_lists.proofs.Numbers.{differs_turned}
@@ -59,7 +60,7 @@ module _ (q : RawQuery) (d : ViewDef) (n : StarQuery) where
       let five : (list_all (item_is_grouped keys) items && list_all (λ k. order_stands d q items k.what) q.order) ≡ true
       = (and_parts (list_all (condition_stands d) q.conditions) (list_all (item_is_grouped keys) items && list_all (λ k. order_stands d q items k.what) q.order) both.1).1 in (
         (and_parts d.query.grouped _ both.0).0,
-        subst (λ (m : StarQuery). list_all (item_is_grouped m.keys) m.items ≡ true) (some_same (composed_query q d items keys) n h)
+        subst (λ (m : StarQuery). list_all (item_is_grouped m.keys) m.items ≡ true) (same_Some (composed_query q d items keys) n h)
             (and_parts (list_all (item_is_grouped keys) items) (list_all (λ k. order_stands d q items k.what) q.order) five).0,
       )
 
@@ -145,7 +146,7 @@ found_number p (v ∷ views) w up e = by (p v) e (found_number p views w up.1)
 
     by : (b : Bool) → cond b (Some v) (find p views) ≡ Some w → (find p views ≡ Some w → find (λ u. u.def.view == w.def.view) views ≡ Some w)
         → find (λ u. u.def.view == w.def.view) (v ∷ views) ≡ Some w
-    by true e k = subst (λ (x : View). find (λ u. u.def.view == w.def.view) (x ∷ views) ≡ Some w) (sym (some_same v w e)) (ap (λ b. cond b (Some w) (find (λ u. u.def.view == w.def.view) views)) (eq-eqb w.def.view w.def.view refl))
+    by true e k = subst (λ (x : View). find (λ u. u.def.view == w.def.view) (x ∷ views) ≡ Some w) (sym (same_Some v w e)) (ap (λ b. cond b (Some w) (find (λ u. u.def.view == w.def.view) views)) (eq-eqb w.def.view w.def.view refl))
     by false e k = other (v.def.view == w.def.view) refl (each_found (IsBefore v) p views w up.0 e) (k e)
 
 -- ---- a view less

@@ -1,5 +1,6 @@
 -- Every event keeps what Standing says of the views.
 use Rattle.std.proofs.Common.{◌≡◌, ap, subst, refl, arith, ℕ, ◌≤◌, Bool, true, false, cond, not, List, [], ◌∷◌, ◌++◌, length, Option, Some, None, nat_le, ◌==◌}
+use Rattle.std.proofs.lemmas.Option.{none-some, same_Some}
 use Rattle.std.specs.List.{filter, find, fold}
 use Rattle.std.specs.Prelude.{Err, Ok, Result, ◌-◌, int_lt, max, nat_abs, option_and_then, option_map, pos, unwrap_or}
 use Rattle.wh_base.specs.Lists.{change_where, first_of, first_some, has_text, is_empty, option_case, or_refuse, same_text, unless, where_true}
@@ -58,7 +59,7 @@ use Rattle.def_resolve.specs.Names.{lone_name}
 use Rattle.def_resolve.specs.Resolve.{resolve}
 use Rattle.def_resolve.proofs.Trees.{resolve-is}
 use Rattle.def_restrictions.specs.Restrictions.{restricted}
-use Rattle.law_trace.proofs.Listed.{Each, each_filter, each_found, none_not_some, some_same}
+use Rattle.law_trace.proofs.Listed.{Each, each_filter, each_found}
 use Rattle.law_trace.proofs.Outcomes.{EachOk, bind_ok, cond_step, option_step, unless_ok, unless_then_ok}
 use Rattle.law_nest_trace.proofs.Standing.{IsOver, IsSameView, Standing, changed, changed_same, compose_says, found_number, standing_added, standing_changed, standing_dropped}
 
@@ -77,13 +78,13 @@ put : (s : State) (x : Session) → Holds s → Good x → Holds (with_session s
 put s x h good = (h.0, (good, each_filter Good (λ y. not (y.number == x.number)) s.sessions h.1))
 
 ended_holds : (s : State) (x : Session) → Holds s → Holds (ended s x)
-ended_holds s x h = put s (record x { begun = None }) h (λ b e. absurd (none_not_some b e))
+ended_holds s x h = put s (record x { begun = None }) h (λ b e. absurd (none-some b e))
 
 pub good_of : (s : State) (n : ℕ) → Holds s → Good (session_of s n)
 good_of s n h = by (find (λ x. x.number == n) s.sessions) refl
   where
     by : (o : Option Session) → find (λ x. x.number == n) s.sessions ≡ o → Good (unwrap_or o (new_session n))
-    by None e = λ b k. absurd (none_not_some b k)
+    by None e = λ b k. absurd (none-some b k)
     by (Some x) e = each_found Good (λ x. x.number == n) s.sessions x h.1 e
 
 -- what an outcome leaves
@@ -107,7 +108,7 @@ tables_lead : (c : Catalog) (s : NewView) → Stands c → Leads (create_over_ta
 tables_lead c s h =
     bind_ok (λ (p : Catalog × ℕ). Stands p.0) (resolve (defs_now c) s.asked.query) (λ q. unless (fast_form_refusal c (new_view c s q)) (with_view c (new_view c s q), build_reads c (new_view c s q)))
     (λ q e. unless_ok (λ (p : Catalog × ℕ). Stands p.0) (fast_form_refusal c (new_view c s q)) (with_view c (new_view c s q), build_reads c (new_view c s q))
-    (λ fit. standing_added c.views c.views_made (new_view c s q) refl (resolve-is (defs_now c) s.asked.query q e).1 (λ n e. absurd (none_not_some n e)) h))
+    (λ fit. standing_added c.views c.views_made (new_view c s q) refl (resolve-is (defs_now c) s.asked.query q e).1 (λ n e. absurd (none-some n e)) h))
 
 -- the query that a nested definition is composed by
 composed_by : (s : NewView) (v : View) (q : StarQuery) → nested_query s v ≡ Ok q → compose s.asked.query v.def ≡ Some q
@@ -132,7 +133,7 @@ over_leads c s v found h =
 
     over : (q : StarQuery) → nested_query s v ≡ Ok q → IsOver c.views (nested_view c s v q)
     over q e n same =
-        let number : v.def.view ≡ n = some_same v.def.view n same in
+        let number : v.def.view ≡ n = same_Some v.def.view n same in
         let both : (find (λ w. w.def.view == v.def.view) c.views ≡ Some v) × (v.def.view ≤ c.views_made) = by_name (lone_name s.asked.query) found in
         let first : v.def.view ≤ c.views_made = both.1 in
         record {
@@ -321,7 +322,7 @@ begin_holds : (s : State) (x : Session) (r : RefreshView) → Holds s → Holds 
 begin_holds s x r h =
     let v : Option View = view_named s.catalog r.name in
     let b : Begun = record { view = option_map (λ w. w.def.view) v; point = option_and_then (λ w. w.point) v; image = s.catalog } in
-    put s (record x { begun = Some b }) h (λ d e. subst (λ (f : Begun). Stands f.image) (some_same b d e) h.0)
+    put s (record x { begun = Some b }) h (λ d e. subst (λ (f : Begun). Stands f.image) (same_Some b d e) h.0)
 
 other_holds : (s : State) (x : Session) (statement : Statement) → Holds s → Good x → Holds (other_step s x statement).state
 other_holds s x (about.Select a) h good = given_holds s _ (star_at (image_of s x) a.query) h

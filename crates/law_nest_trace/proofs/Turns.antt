@@ -6,9 +6,8 @@ use Rattle.std.proofs.Math.Bool.{or-true}
 use Rattle.wh_base.specs.Lists.{option_case, option_nat_is}
 use Rattle.def_history.specs.Catalog.{View}
 use Rattle.def_journal.specs.Listing.{in_turn, is_ready}
-use Rattle.law_trace.proofs.Listed.{Each, Pairs, each_filter, each_found, each_weaker}
+use Rattle.law_trace.proofs.Listed.{Each, Pairs, any_false, each_filter, each_found, each_weaker}
 use Rattle.law_trace.proofs.Parenting.{find_none}
-use Rattle.law_trace.proofs.Counting.{any_false}
 use Rattle.law_lists.proofs.Each.{Each-from_none, Each-passes, Each-unfilter}
 use Rattle.law_lists.proofs.Options.{find_passes}
 

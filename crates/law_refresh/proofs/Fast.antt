@@ -1,8 +1,9 @@
 -- A refresh by the root's log gives what the definition stores now.
 use Rattle.std.proofs.Common.{◌≡◌, ◌∙◌, sym, ap, refl, subst, arith, ℕ, zero, suc, ◌<◌, ◌≤◌, Bool, true, false, cond, not, List, [], ◌∷◌, ◌++◌, length, map, Option, None, Some, inl, inr, ◌⊎◌, ◌==◌, ◌&&◌, ◌||◌, true≢false}
+use Rattle.std.proofs.lemmas.Option.{same_Some}
 use Rattle.std.specs.List.{filter, list_all, list_any}
 use Rattle.std.specs.Prelude.{option_map, pos, slice_get, unwrap_or, is_some}
-use Rattle.std.proofs.lemmas.Bool.{eq-eqb, eqb-true}
+use Rattle.std.proofs.lemmas.Bool.{eq-eqb, eqb-true, or_parts}
 use Rattle.wh_base.specs.Columns.{has_column}
 use Rattle.wh_base.specs.Lists.{has_number, is_empty, option_case, sorted_by}
 use Rattle.wh_base.specs.Tables.{Row, Base, Table, def_at, is_removal, row_at, table_after, table_at, value_at}
@@ -65,7 +66,7 @@ use Rattle.law_refresh.specs.Logged.{IsLog}
 use Rattle.law_refresh.specs.Planned.{AreGranted, Distinct, IsGranted, IsPlace, IsPlanned}
 use Rattle.law_refresh.specs.SidesRead.{log_between, read_side, rowid_logged}
 use Rattle.law_trace.proofs.Changes.{IsEither, trace_either}
-use Rattle.law_trace.proofs.Listed.{Each, each_every, or_first, or_second, each_filter, find_has, some_same}
+use Rattle.law_trace.proofs.Listed.{Each, each_every, each_filter, find_has}
 use Rattle.law_trace.proofs.Untouched.{untouched_laws}
 use Rattle.law_trace.specs.Reached.{catalog_of, still_table}
 use Rattle.law_trace.specs.Reached.{still as table_still}
@@ -108,9 +109,9 @@ none_such p q (m ∷ ns) n there none is = by (m == n) (q m) refl refl there non
   where
     by : (a b : Bool) → (m == n) ≡ a → q m ≡ b → (a || has_number ns n) ≡ true → list_any p (cond b (m ∷ filter q ns) (filter q ns)) ≡ false
         → (has_number ns n ≡ true → list_any p (filter q ns) ≡ false → p n ≡ true → q n ≡ false) → q n ≡ false
-    by true true e f there none more = absurd (true≢false (sym is ∙ ap p (sym (eqb-true m n e)) ∙ or_first (p m) (list_any p (filter q ns)) none))
+    by true true e f there none more = absurd (true≢false (sym is ∙ ap p (sym (eqb-true m n e)) ∙ (or_parts (p m) (list_any p (filter q ns)) none).0))
     by true false e f there none more = ap q (sym (eqb-true m n e)) ∙ f
-    by false true e f there none more = more there (or_second (p m) (list_any p (filter q ns)) none) is
+    by false true e f there none more = more there (or_parts (p m) (list_any p (filter q ns)) none).1 is
     by false false e f there none more = more there none is
 
 none_changed : (c : Catalog) (v : View) (n : ℕ) → has_number v.def.query.tables n ≡ true → (n == v.def.query.root) ≡ false → other_changed c v ≡ false → changes_after c v n ≡ []
@@ -139,7 +140,7 @@ seat trace v l fast =
     let point : point_of v ≡ p = ap (λ o. unwrap_or o 0) g.built in
     let has_root : has_number q.tables root ≡ true = root_there v planned.others planned.tables in
     let h : IsGranted c v root = g.tables root has_root in
-    let log : h.log ≡ l = some_same h.log l (sym h.found ∙ fast.log) in
+    let log : h.log ≡ l = same_Some h.log l (sym h.found ∙ fast.log) in
     let rowid : l.facts.rowid ≡ true = subst (λ (k : Log). k.facts.rowid ≡ true) log h.rowid in
     let of_l : l.table ≡ root = find_has (λ (k : Log). k.table) root c.logs l fast.log in
     let fit : IsLog c.scn (defs_now c) l = log_fits trace root l fast.log in
@@ -197,7 +198,7 @@ seat trace v l fast =
 
 no_olds : (cs : List Change) → list_any is_removal cs ≡ false → old_rows cs ≡ []
 no_olds [] e = refl
-no_olds (c ∷ cs) e = by c.old (or_first (is_some c.old) (list_any is_removal cs) e) (no_olds cs (or_second (is_some c.old) (list_any is_removal cs) e))
+no_olds (c ∷ cs) e = by c.old (or_parts (is_some c.old) (list_any is_removal cs) e).0 (no_olds cs (or_parts (is_some c.old) (list_any is_removal cs) e).1)
   where
     by : (o : Option (List Value)) → is_some o ≡ false → old_rows cs ≡ [] → side c.rowid o ++ old_rows cs ≡ []
     by None e h = h

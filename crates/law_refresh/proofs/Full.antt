@@ -1,5 +1,6 @@
 -- What can't be NULL isn't NULL in any tuple, so COUNT(*) counts it.
 use Rattle.std.proofs.Common.{◌≡◌, ◌∙◌, sym, ap, refl, subst, arith, ℕ, zero, suc, Bool, true, false, cond, not, List, [], ◌∷◌, ◌++◌, length, map, Option, None, Some, nat_le, ◌==◌, ◌&&◌, ◌||◌}
+use Rattle.std.proofs.lemmas.Option.{same_Some}
 use Rattle.std.specs.List.{find, flat_map, list_all}
 use Rattle.std.specs.Prelude.{slice_get, zip}
 use Rattle.std.proofs.lemmas.Bool.{and_parts, eq-eqb, eqb-true, not-false}
@@ -39,7 +40,7 @@ use Rattle.def_restrictions.specs.Definition.{selects_agg, table_defs, view_neve
 use Rattle.law_trace.proofs.Basing.{base_altered, base_committed, base_created, none_first, none_rest, none_where}
 use Rattle.law_trace.proofs.Fitting.{AllFit, trace_fits}
 use Rattle.law_trace.proofs.Growing.{SamePast, dues_past, installed_past}
-use Rattle.law_trace.proofs.Listed.{Each, each_append, each_filter, each_found, each_map, each_weaker, some_same}
+use Rattle.law_trace.proofs.Listed.{Each, each_append, each_filter, each_found, each_map, each_weaker}
 use Rattle.law_trace.proofs.Moves.{Adds, Alters, Commits, Creates, Declares, Drops, Forgets, Installs, Logs, Move, Purges, Stays, Switches, Withdraws}
 use Rattle.law_trace.proofs.Stepping.{moves}
 use Rattle.law_trace.proofs.Traces.{by_events, state_push}
@@ -105,7 +106,7 @@ column_holds : (d : TableDef) (columns : List ColumnDef) (vs : List Value) (n : 
     → column_refusal d (col, value_at vs n) ≡ None
 column_holds d [] vs n col many none is = cc
 column_holds d (c ∷ columns) [] n col many none is = absurd (omega arith)
-column_holds d (c ∷ columns) (v ∷ vs) zero col many none is = ap (λ x. column_refusal d (x, v)) (sym (some_same c col is)) ∙ none_first (column_refusal d (c, v)) _ none
+column_holds d (c ∷ columns) (v ∷ vs) zero col many none is = ap (λ x. column_refusal d (x, v)) (sym (same_Some c col is)) ∙ none_first (column_refusal d (c, v)) _ none
 column_holds d (c ∷ columns) (v ∷ vs) (suc n) col many none is = column_holds d columns vs n col (less (length vs) (length columns) many) (none_rest (column_refusal d (c, v)) _ none) is
   where
     less : (m n : ℕ) → suc m ≡ suc n → m ≡ n

@@ -2,7 +2,7 @@
 use Rattle.std.proofs.Common.{◌≡◌, ◌∙◌, sym, ap, refl, subst, arith, ℕ, suc, ◌≤◌, Bool, true, false, cond, List, [], ◌∷◌, ◌++◌, map, None, Some, nat_le, nat_lt, ◌==◌, ◌&&◌}
 use Rattle.std.specs.List.{filter, find}
 use Rattle.std.specs.Prelude.{Ok}
-use Rattle.std.proofs.lemmas.Bool.{leb-false, leb-true, lt-ltb}
+use Rattle.std.proofs.lemmas.Bool.{and_right, le-leb, leb-false, leb-true, lt-leb, lt-ltb}
 use Rattle.std.proofs.lemmas.List.{append-nil, map-append}
 use Rattle.std.proofs.lemmas.List.Elements.{filter-append}
 use Rattle.wh_base.specs.Lists.{option_case}
@@ -24,7 +24,7 @@ use Rattle.law_refresh.proofs.Following.{block_followed, followed_none, followed
 use Rattle.law_refresh.specs.Followed.{Followed}
 use Rattle.law_trace.proofs.Basing.{base_altered, base_committed, base_created}
 use Rattle.law_trace.proofs.Growing.{SamePast, changes_bounded, dues_past, installed_past, reached, touches_bounded}
-use Rattle.law_trace.proofs.Listed.{Each, and_false, each_append, each_left, each_made, each_right, each_weaker, filter_none, le_false, le_true}
+use Rattle.law_trace.proofs.Listed.{Each, each_append, each_left, each_made, each_right, each_weaker, filter_none}
 use Rattle.law_trace.proofs.Moves.{Adds, Alters, Commits, Creates, Declares, Drops, Forgets, Installs, Logs, Move, Purges, Stays, Switches, Withdraws, installed}
 use Rattle.law_trace.proofs.Rising.{Sound}
 use Rattle.law_trace.proofs.Fitting.{trace_sound}
@@ -60,7 +60,7 @@ follows_same c d scn now past changes touches h = (
 none_since : (table q : ℕ) (ns : List Noted) → Each (λ n. n.scn ≤ q) ns → of_noted table q ns ≡ []
 none_since table q ns h =
     ap (map (λ n. n.change)) (filter_none (is_since table q) ns
-    (each_weaker (λ n. n.scn ≤ q) (λ n. is_since table q n ≡ false) (λ n low. and_false (n.table == table) (nat_lt q n.scn) (le_false (suc q) n.scn (omega arith))) ns h))
+    (each_weaker (λ n. n.scn ≤ q) (λ n. is_since table q n ≡ false) (λ n low. and_right (n.table == table) (nat_lt q n.scn) (lt-leb (suc q) n.scn (omega arith))) ns h))
 
 -- one base state more, at the next SCN
 follows_based : (c d : Catalog) (base : Base) (news : List Noted) (touched : List Touched) → d.scn ≡ suc c.scn → d.past ≡ (suc c.scn, base) ∷ c.past → base_now d ≡ base
@@ -153,7 +153,7 @@ move_follows s x d bounded rises (Declares a new is) h = subst Follows (sym is) 
 move_follows s x d bounded rises (Withdraws name is) h = subst Follows (sym is) h
 
 follows_none : Follows empty_catalog
-follows_none = (tt, λ table q kept. subst (λ base. Followed table base [] []) (sym (ap (λ b. option_case (cond b (Some (0, [])) None) [] (λ (p : ℕ × Base). p.1)) (le_true 0 q (omega arith)))) (followed_none table []))
+follows_none = (tt, λ table q kept. subst (λ base. Followed table base [] []) (sym (ap (λ b. option_case (cond b (Some (0, [])) None) [] (λ (p : ℕ × Base). p.1)) (le-leb 0 q (omega arith)))) (followed_none table []))
 
 trace_follows : (trace : List Event) → Follows (catalog_of trace)
 trace_follows = by_events (λ trace. Follows (catalog_of trace)) follows_none step
@@ -167,7 +167,7 @@ trace_follows = by_events (λ trace. Follows (catalog_of trace)) follows_none st
 
 pub up_to_now : (table q top : ℕ) (ns : List Noted) → Each (λ n. n.scn ≤ top) ns → filter (λ n. (n.table == table) && within q top n.scn) ns ≡ filter (is_since table q) ns
 up_to_now table q top [] h = refl
-up_to_now table q top (n ∷ ns) h = by (n.table == table) (nat_lt q n.scn) (nat_le n.scn top) (le_true n.scn top h.0) (up_to_now table q top ns h.1)
+up_to_now table q top (n ∷ ns) h = by (n.table == table) (nat_lt q n.scn) (nat_le n.scn top) (le-leb n.scn top h.0) (up_to_now table q top ns h.1)
   where
     by : (a b c : Bool) → c ≡ true → filter (λ n. (n.table == table) && within q top n.scn) ns ≡ filter (is_since table q) ns
         → cond (a && (b && c)) (n ∷ filter (λ n. (n.table == table) && within q top n.scn) ns) (filter (λ n. (n.table == table) && within q top n.scn) ns) ≡ cond (a && b) (n ∷ filter (is_since table q) ns) (filter (is_since table q) ns)

@@ -1,5 +1,6 @@
 -- The logs of every trace, and what each event leaves of them.
 use Rattle.std.proofs.Common.{◌≡◌, ◌∙◌, sym, ap, refl, subst, ℕ, Bool, true, false, cond, List, [], ◌∷◌, Some, inl, inr, ◌⊎◌, ◌==◌}
+use Rattle.std.proofs.lemmas.Option.{same_Some}
 use Rattle.std.specs.List.{find}
 use Rattle.std.specs.Prelude.{option_map}
 use Rattle.std.proofs.lemmas.Bool.{eqb-true}
@@ -12,7 +13,7 @@ use Rattle.def_journal.specs.Committing.{after_block, do_dues}
 use Rattle.def_journal.specs.State.{State}
 use Rattle.def_journal.specs.Statements.{new_log}
 use Rattle.law_trace.proofs.Due.{dues_keep, installs_keep}
-use Rattle.law_trace.proofs.Listed.{each_every, find_changed, find_has, find_left, some_same}
+use Rattle.law_trace.proofs.Listed.{each_every, find_changed, find_has, find_left}
 use Rattle.law_trace.proofs.Moves.{Adds, Alters, Born, Commits, Creates, Declares, Drops, Forgets, Gone, Installs, Logs, MakesLogs, Move, Purged, Purges, PurgesLogs, Stays, Switches, Withdraws, installed}
 use Rattle.law_lists.proofs.Options.{find_more}
 
@@ -34,13 +35,13 @@ abbrev pub Left : Catalog → Log → Log → Type 0
 Left c l m = (m ≡ l) ⊎ (m ≡ purged_log c l)
 
 same_left : (c d : Catalog) (table : ℕ) (l m : Log) → d.logs ≡ c.logs → log_of c table ≡ Some l → log_of d table ≡ Some m → Left c l m
-same_left c d table l m same was is = inl (some_same m l (sym is ∙ ap (find (λ k. k.table == table)) same ∙ was))
+same_left c d table l m same was is = inl (same_Some m l (sym is ∙ ap (find (λ k. k.table == table)) same ∙ was))
 
 made_left : (c d : Catalog) (table : ℕ) (l m : Log) → MakesLogs c d.logs → log_of c table ≡ Some l → log_of d table ≡ Some m → Left c l m
 made_left c d table l m (Born n a there none made) was is =
-    inl (some_same m l (sym is ∙ ap (find (λ k. k.table == table)) made ∙ find_more (λ k. k.table == table) c.logs (new_log c n (def_at (defs_now c) n) a ∷ []) l was))
+    inl (same_Some m l (sym is ∙ ap (find (λ k. k.table == table)) made ∙ find_more (λ k. k.table == table) c.logs (new_log c n (def_at (defs_now c) n) a ∷ []) l was))
 made_left c d table l m (Gone n made) was is =
-    inl (some_same m l (sym (find_left table_of n table c.logs m (ap (find (λ k. k.table == table)) (sym made) ∙ is)) ∙ was))
+    inl (same_Some m l (sym (find_left table_of n table c.logs m (ap (find (λ k. k.table == table)) (sym made) ∙ is)) ∙ was))
 
 -- the log of k's table purged, the others as they are
 abbrev changed : Catalog → Log → Log → Log
@@ -57,14 +58,14 @@ purge_left : (c d : Catalog) (table : ℕ) (l m : Log) → PurgesLogs c d.logs �
 purge_left c d table l m (Purged n k found made) was is = by (l.table == k.table) refl after
   where
     after : m ≡ changed c k l
-    after = some_same m (changed c k l) (sym is ∙ ap (find (λ j. j.table == table)) made ∙ find_changed table_of (changed c k) (changed_keeps c k) table c.logs ∙ ap (option_map (changed c k)) was)
+    after = same_Some m (changed c k l) (sym is ∙ ap (find (λ j. j.table == table)) made ∙ find_changed table_of (changed c k) (changed_keeps c k) table c.logs ∙ ap (option_map (changed c k)) was)
 
     by : (b : Bool) → (l.table == k.table) ≡ b → m ≡ changed c k l → Left c l m
     by true e after =
         let of_l : l.table ≡ table = find_has table_of table c.logs l was in
         let of_k : k.table ≡ n = find_has table_of n c.logs k found in
         let numbers : n ≡ table = sym of_k ∙ sym (eqb-true l.table k.table e) ∙ of_l in
-        let same : k ≡ l = some_same k l (sym found ∙ ap (log_of c) numbers ∙ was) in
+        let same : k ≡ l = same_Some k l (sym found ∙ ap (log_of c) numbers ∙ was) in
         inr (after ∙ ap (λ b. cond b (purged_log c k) l) e ∙ ap (purged_log c) same)
     by false e after = inl (after ∙ ap (λ b. cond b (purged_log c k) l) e)
 

@@ -2,13 +2,13 @@
 use Rattle.std.proofs.Common.{◌≡◌, ◌∙◌, sym, ap, refl, arith, ℕ, suc, ◌+◌, ◌<◌, Bool, true, false, cond, List, [], ◌∷◌, length, map, ◌==◌, ◌||◌, true≢false}
 use Rattle.std.specs.List.{filter, list_any}
 use Rattle.std.specs.Prelude.{nat_eq}
-use Rattle.std.proofs.lemmas.Bool.{eqb-true}
+use Rattle.std.proofs.lemmas.Bool.{eqb-true, or_parts}
 use Rattle.std.proofs.lemmas.List.{length-map}
 use Rattle.wh_base.specs.Lists.{distinct, distinct_after, has_number}
 use Rattle.law_lists.proofs.Lists.{filter-map, list_any-map}
 use Rattle.law_lists.proofs.Numbers.{equal_turned}
 use Rattle.law_refresh.specs.Planned.{Distinct}
-use Rattle.law_trace.proofs.Listed.{or_first, or_second, Each, Pairs, each_weaker}
+use Rattle.law_trace.proofs.Listed.{Each, Pairs, each_weaker}
 
 either : {A : Type 0} (p q : A → Bool) → ((x : A) → p x ≡ true → q x ≡ false) → (xs : List A) → length (filter (λ x. p x || q x) xs) ≡ length (filter p xs) + length (filter q xs)
 either p q h [] = refl
@@ -56,11 +56,11 @@ distinct_once seen [] = (tt, tt)
 distinct_once seen (x ∷ xs) = by (list_any (nat_eq x) seen) refl (distinct_once seen xs) (distinct_once (x ∷ seen) xs)
   where
     fewer : (n : ℕ) → ((x == n) || has_number seen n) ≡ false → has_number seen n ≡ false
-    fewer n e = or_second (x == n) (has_number seen n) e
+    fewer n e = (or_parts (x == n) (has_number seen n) e).1
 
     apart : (ns : List ℕ) → Each (λ n. ((x == n) || has_number seen n) ≡ false) ns → has_number ns x ≡ false
     apart [] h = refl
-    apart (n ∷ ns) h = (λ i. (equal_turned n x ∙ or_first (x == n) (has_number seen n) h.0) i || apart ns h.1 i)
+    apart (n ∷ ns) h = (λ i. (equal_turned n x ∙ (or_parts (x == n) (has_number seen n) h.0).0) i || apart ns h.1 i)
 
     by : (b : Bool) → list_any (nat_eq x) seen ≡ b → Each (λ n. has_number seen n ≡ false) (distinct_after nat_eq seen xs) × Distinct (distinct_after nat_eq seen xs)
         → Each (λ n. ((x == n) || has_number seen n) ≡ false) (distinct_after nat_eq (x ∷ seen) xs) × Distinct (distinct_after nat_eq (x ∷ seen) xs)

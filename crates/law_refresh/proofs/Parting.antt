@@ -1,11 +1,13 @@
 -- A refresh by partitions gives what the definition stores now.
 use Rattle.std.proofs.Common.{◌≡◌, ◌∙◌, sym, ap, refl, subst, ℕ, zero, suc, ◌≤◌, Bool, true, false, cond, not, List, [], ◌∷◌, ◌++◌, map, nat_le, nat_lt, Option, None, Some, inl, inr, length, ◌==◌, ◌&&◌, ◌||◌, true≢false}
+use Rattle.law_lists.proofs.Options.{find_passes}
+use Rattle.std.proofs.lemmas.Option.{same_Some}
 use Rattle.std.specs.List.{filter, find, list_all, list_any}
 use Rattle.std.specs.Prelude.{pos, is_none, is_some, zip, option_and_then, option_map, slice_get, unwrap_or}
 use Rattle.std.specs.Ordering.{is_ge, is_lt}
 use Rattle.std.specs.declared.cmp.Ordering.{Ordering}
 use Rattle.std.specs.declared.cmp.Ordering.TheVariants.{Equal, Greater, Less}
-use Rattle.std.proofs.lemmas.Bool.{not-false, not-true, and_from, and_parts, eq-eqb, eqb-true}
+use Rattle.std.proofs.lemmas.Bool.{and_from, and_parts, eq-eqb, eqb-true, le-leb, not-false, not-true, or_parts}
 use Rattle.wh_base.specs.Columns.{same_item}
 use Rattle.wh_base.specs.Lists.{first_of, first_some, has_number, option_case, sorted_by, where_true}
 use Rattle.wh_base.specs.Tables.{Base, Row, Table, def_at, mark_of, part_intervals, part_of_key, row_at, table_at, value_at}
@@ -57,10 +59,9 @@ use Rattle.law_trace.proofs.Cuts.{intervals_rise}
 use Rattle.law_trace.proofs.Bordering.{AreNumbered, PartsRight, trace_numbered}
 use Rattle.law_trace.proofs.Growing.{reached, touches_bounded}
 use Rattle.law_trace.proofs.Fitting.{AllFit, trace_fits}
-use Rattle.law_trace.proofs.Listed.{each_made, le_true, each_two, Each, Pairs, each_found, each_map, each_weaker, or_first, some_same}
+use Rattle.law_trace.proofs.Listed.{each_made, each_two, Each, Pairs, each_found, each_map, each_weaker}
 use Rattle.law_trace.proofs.Outside.{Avoids, fit_at, trace_outside}
 use Rattle.law_trace.proofs.Sparing.{keeps, three_true, avoids_touches, outside, same_kept}
-use Rattle.law_trace.proofs.Tested.{found_passes}
 use Rattle.law_trace.specs.Reached.{catalog_of}
 use Rattle.law_trace.specs.Rows.{Fits}
 
@@ -132,7 +133,7 @@ module _ {A : Type 0} (num : A → ℕ) (s : A → Bool) where
       other low false h = h
 
       by : (b : Bool) → cond b (Some z) (find p xs) ≡ Some x → (find p xs ≡ Some x → has_number (map num (filter s xs)) (num x) ≡ s x) → has_number (map num (cond (s z) (z ∷ filter s xs) (filter s xs))) (num x) ≡ s x
-      by true e more = own (some_same z x e) (s x) refl
+      by true e more = own (same_Some z x e) (s x) refl
       by false e more = other (each_found (λ y. (num z == num y) ≡ false) p xs x rise.0 e) (s z) (more e)
 
 -- ---- the rows of the partitions that are computed anew
@@ -156,7 +157,7 @@ module _ (c : Catalog) (v : View) (n k : ℕ) (keyed : (table_at (base_now c) n)
           let mark : mark_of table r.values ≡ p.0.number =
           ap (λ (o : Option ℕ). option_case (option_map (value_at r.values) o) 0 (λ key. option_case (part_of_key table key) 0 (λ p. p.0.number))) keyed ∙ ap (λ o. option_case o 0 (λ (p : Part × Interval). p.0.number)) e in
           let meets : is_stale_part c v n p ≡ list_any (intervals_meet p.1) (stale_intervals c v) = ap (λ b. cond b (list_any (intervals_meet p.1) (stale_intervals c v)) (list_any (λ t. t.number == p.0.number) (touches_after c v n))) by_key in
-          let has : interval_has p.1 (value_at r.values k) ≡ true = found_passes (λ (p : Part × Interval). interval_has p.1 (value_at r.values k)) (part_intervals table) p e in
+          let has : interval_has p.1 (value_at r.values k) ≡ true = find_passes (λ (p : Part × Interval). interval_has p.1 (value_at r.values k)) (part_intervals table) p e in
           ap (λ o. list_any (λ i. interval_has i (value_at r.values k)) (stale_intervals c v) || option_case o false (is_stale_part c v n)) e
           ∙ ap (λ b. list_any (λ i. interval_has i (value_at r.values k)) (stale_intervals c v) || b) meets
           ∙ meets_any p.1 (value_at r.values k) (stale_intervals c v) has
@@ -173,12 +174,12 @@ module _ (c : Catalog) (v : View) (n k : ℕ) (keyed : (table_at (base_now c) n)
 
 all_at : {A : Type 0} (p : A → Bool) (xs : List A) (n : ℕ) (x : A) → list_all p xs ≡ true → slice_get xs n ≡ Some x → p x ≡ true
 all_at p [] n x all is = cc
-all_at p (y ∷ xs) zero x all is = ap p (sym (some_same y x is)) ∙ (and_parts (p y) (list_all p xs) all).0
+all_at p (y ∷ xs) zero x all is = ap p (sym (same_Some y x is)) ∙ (and_parts (p y) (list_all p xs) all).0
 all_at p (y ∷ xs) (suc n) x all is = all_at p xs n x (and_parts (p y) (list_all p xs) all).1 is
 
 any_at : {A : Type 0} (p : A → Bool) (xs : List A) (n : ℕ) (x : A) → p x ≡ true → slice_get xs n ≡ Some x → list_any p xs ≡ true
 any_at p [] n x holds is = cc
-any_at p (y ∷ xs) zero x holds is = ap (λ b. b || list_any p xs) (ap p (some_same y x is) ∙ holds)
+any_at p (y ∷ xs) zero x holds is = ap (λ b. b || list_any p xs) (ap p (same_Some y x is) ∙ holds)
 any_at p (y ∷ xs) (suc n) x holds is = later (p y) (any_at p xs n x holds is)
   where
     later : (b : Bool) → list_any p xs ≡ true → (b || list_any p xs) ≡ true
@@ -214,7 +215,7 @@ zip_found {A = A} p (n ∷ ns) (d ∷ ds) t e = by (p (n, d)) e (zip_found p ns 
     later false h = h
 
     by : (b : Bool) → cond b (Some (n, d)) (find p (zip ns ds)) ≡ Some t → (find p (zip ns ds) ≡ Some t → has_number ns t.0 ≡ true) → ((n == t.0) || has_number ns t.0) ≡ true
-    by true e more = ap (λ b. b || has_number ns t.0) (eq-eqb n t.0 (ap (λ (t : ℕ × A). t.0) (some_same (n, d) t e)))
+    by true e more = ap (λ b. b || has_number ns t.0) (eq-eqb n t.0 (ap (λ (t : ℕ × A). t.0) (same_Some (n, d) t e)))
     by false e more = later (n == t.0) (more e)
 
 numbered_at : (base : Base) (n : ℕ) → Each PartsRight base → AreNumbered (table_at base n)
@@ -226,7 +227,7 @@ numbered_at (t ∷ base) (suc n) h = numbered_at base n h.1
 free_of : (c : Catalog) (v : View) (n : ℕ) (all : List Interval) → stale_intervals c v ≡ union_of all → (w : Value) → not (is_stale_key c v n w) ≡ true → (m : ℕ) → outside all m w ≡ true
 free_of c v n all stale w free m =
     let first : list_any (λ i. interval_has i w) (stale_intervals c v) ≡ false =
-    or_first (list_any (λ i. interval_has i w) (stale_intervals c v)) (option_case (part_of_key (table_at (base_now c) n) w) false (is_stale_part c v n)) (not-true (is_stale_key c v n w) free) in
+    (or_parts (list_any (λ i. interval_has i w) (stale_intervals c v)) (option_case (part_of_key (table_at (base_now c) n) w) false (is_stale_part c v n)) (not-true (is_stale_key c v n w) free)).0 in
     ap not (sym (union-has w all) ∙ ap (any_has w) (sym stale) ∙ first)
 
 alike : (n m : ℕ) (a b : List RowAt) (f g : ℕ → List RowAt) → a ≡ b → ((m == n) ≡ false → f m ≡ g m) → with_rows n a f m ≡ with_rows n b g m
@@ -364,7 +365,7 @@ marked trace v n k place planned none is key by_mark selected =
     subst (λ (m : ℕ). Each (λ t. ((t.table == n) && within p c.scn t.touch.scn) ≡ true → has_number (map (λ t. t.number) (touches_of c n m c.scn)) t.touch.number ≡ true) c.touches) (sym point) (touched_number (λ t. (t.table == n) && within p c.scn t.touch.scn) c.touches) in
     let avoids : Each (Avoids out n p) c.touches =
     each_weaker (λ t. (t.touch.scn ≤ c.scn) × (((t.table == n) && within p c.scn t.touch.scn) ≡ true → has_number (map (λ t. t.number) (touches_after c v n)) t.touch.number ≡ true)) (Avoids out n p)
-    (λ t both e w free. absurd (true≢false (sym free ∙ ap not (both.1 (three_true (t.table == n) (nat_lt p t.touch.scn) (nat_le t.touch.scn c.scn) e (le_true t.touch.scn c.scn both.0)))))) c.touches
+    (λ t both e w free. absurd (true≢false (sym free ∙ ap not (both.1 (three_true (t.table == n) (nat_lt p t.touch.scn) (nat_le t.touch.scn c.scn) e (le-leb t.touch.scn c.scn both.0)))))) c.touches
     (each_two (λ t. t.touch.scn ≤ c.scn) (λ t. ((t.table == n) && within p c.scn t.touch.scn) ≡ true → has_number (map (λ t. t.number) (touches_after c v n)) t.touch.number ≡ true) c.touches
     (touches_bounded c (reached trace)) touched) in
     same_kept out n k (base_at c p) (base_now c) (trace_outside trace n p out avoids) part_key fit)
@@ -415,7 +416,7 @@ choice trace v planned none = by (tracked v.def) refl
         let d : TableDef = def_at (defs_now (catalog_of trace)) t.0 in
         let is : t.1 ≡ d = tracked_is (catalog_of trace) v planned t e in
         let tracks : tracked v.def ≡ Some (t.0, d) = e ∙ ap (λ d. Some (t.0, d)) is in
-        let some : is_some t.1.part_key ≡ true = found_passes (λ (t : ℕ × TableDef). is_some t.1.part_key) (table_defs v.def) t e in
+        let some : is_some t.1.part_key ≡ true = find_passes (λ (t : ℕ × TableDef). is_some t.1.part_key) (table_defs v.def) t e in
         let key : (k : ℕ) × (t.1.part_key ≡ Some k) = found_key t t.1.part_key refl some in
         let keyed : d.part_key ≡ Some key.0 = ap (λ (d : TableDef). d.part_key) (sym is) ∙ key.1 in
         let col : ColRef = record { table = t.0; part = Col key.0 } in

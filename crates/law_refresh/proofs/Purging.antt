@@ -1,5 +1,6 @@
 -- A purge takes from a log what each view that is registered on the table has passed.
 use Rattle.std.proofs.Common.{◌≡◌, ◌∙◌, sym, ap, refl, subst, arith, ℕ, ◌+◌, ◌<◌, ◌≤◌, Bool, true, false, cond, not, List, [], ◌∷◌, ◌++◌, map, Option, None, Some, inl, inr, nat_lt, ◌&&◌, true≢false}
+use Rattle.std.proofs.lemmas.Option.{none-some, same_Some}
 use Rattle.std.specs.List.{All, cons_option, enumerate_from, filter, filter_map}
 use Rattle.std.specs.Option.{ForSome}
 use Rattle.std.specs.Prelude.{max, flat_map}
@@ -21,7 +22,7 @@ use Rattle.law_refresh.proofs.History.{is_since, up_to_now}
 use Rattle.law_refresh.proofs.Logging.{Left, move_left}
 use Rattle.law_refresh.specs.Logged.{HasPassed, IsPurged}
 use Rattle.law_trace.proofs.Growing.{Grows, changes_bounded, reached, trace_grows}
-use Rattle.law_trace.proofs.Listed.{Each, all_from, each_filter, each_two, each_weaker, none_not_some, some_same}
+use Rattle.law_trace.proofs.Listed.{Each, all_from, each_filter, each_two, each_weaker}
 use Rattle.law_trace.proofs.Stepping.{moves}
 use Rattle.law_trace.proofs.Traces.{state_push}
 use Rattle.law_trace.specs.Reached.{catalog_of}
@@ -57,8 +58,8 @@ points_of k P [] h = tt
 points_of k P (v ∷ vs) h = by (P v) refl h (points_of k P vs)
   where
     one : (o : Option ℕ) (rest : List ℕ) → Each (λ p. k ≤ p) (cons_option o rest) → ForSome o (λ p. k ≤ p) × Each (λ p. k ≤ p) rest
-    one None rest h = (λ p e. absurd (none_not_some p e), h)
-    one (Some p) rest h = (λ q e. let same : p ≡ q = some_same p q e in omega (arith, h.0), h.1)
+    one None rest h = (λ p e. absurd (none-some p e), h)
+    one (Some p) rest h = (λ q e. let same : p ≡ q = same_Some p q e in omega (arith, h.0), h.1)
 
     by : (b : Bool) → P v ≡ b → Each (λ p. k ≤ p) (filter_map (λ (w : View). w.point) (cond b (v ∷ filter P vs) (filter P vs)))
         → (Each (λ p. k ≤ p) (filter_map (λ (w : View). w.point) (filter P vs)) → Each (λ v. P v ≡ true → ForSome v.point (λ p. k ≤ p)) vs)

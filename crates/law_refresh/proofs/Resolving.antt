@@ -1,5 +1,6 @@
 -- What a query resolves to is a star over tables that are there, with columns that they have.
 use Rattle.std.proofs.Common.{◌≡◌, ◌∙◌, sym, ap, refl, subst, ℕ, zero, suc, ◌+◌, ◌<◌, Bool, true, false, cond, not, List, [], ◌∷◌, ◌++◌, length, map, Option, None, Some, ◌==◌, ◌&&◌, ◌||◌, true≢false}
+use Rattle.std.proofs.lemmas.Option.{same_Some}
 use Rattle.std.specs.List.{cons_option, filter_map, flat_map}
 use Rattle.std.specs.Option.{ForSome}
 use Rattle.std.specs.Prelude.{option_map, unwrap_or}
@@ -36,7 +37,7 @@ use Rattle.def_resolve.specs.Star.{is_repeated_number, Tree, branch_to, directed
 use Rattle.def_restrictions.specs.Definition.{condition_column, item_columns, used_columns}
 use Rattle.law_lists.proofs.Each.{Each-given}
 use Rattle.law_refresh.specs.Planned.{Distinct, IsPlace}
-use Rattle.law_trace.proofs.Listed.{each_every, Each, each_append, each_flat, each_made, each_weaker, some_same}
+use Rattle.law_trace.proofs.Listed.{each_every, Each, each_append, each_flat, each_made, each_weaker}
 use Rattle.law_trace.proofs.Stepping.{within_places}
 
 -- ---- the columns that names stand for
@@ -57,7 +58,7 @@ source_is defs t s e = by (table_number defs t.table) refl e
   where
     by : (o : Option ℕ) → table_number defs t.table ≡ o → option_map (λ n. record { label = unwrap_or t.alias t.table; table = n; def = def_at defs n }) o ≡ Some s → IsSource defs s
     by None f e = cc
-    by (Some n) f e = subst (IsSource defs) (some_same (record { label = unwrap_or t.alias t.table; table = n; def = def_at defs n }) s e) (within_places (λ d. same_text d.name t.table) defs n f, refl)
+    by (Some n) f e = subst (IsSource defs) (same_Some (record { label = unwrap_or t.alias t.table; table = n; def = def_at defs n }) s e) (within_places (λ d. same_text d.name t.table) defs n f, refl)
 
 pub sources_are : (defs : List TableDef) (q : RawQuery) → Each (IsSource defs) (sources_of defs q)
 sources_are defs q = Each-given (IsSource defs) (source_of defs) (source_is defs) q.tables
@@ -67,9 +68,9 @@ place_is d keyed (Plain name) p e = by (column_number d name) refl e
   where
     by : (o : Option ℕ) → column_number d name ≡ o → option_map Col o ≡ Some p → IsPlace d p
     by None f e = cc
-    by (Some n) f e = subst (IsPlace d) (some_same (Col n) p e) (λ m g. subst (λ k. k < length d.columns) (some_same n m g) (within_places (λ c. same_text c.name name) d.columns n f))
-place_is d keyed RowIdName p e = subst (IsPlace d) (some_same RowId p e) (λ m g. cc)
-place_is d keyed MarkName p e = subst (IsPlace d) (some_same Mark p e) keyed
+    by (Some n) f e = subst (IsPlace d) (same_Some (Col n) p e) (λ m g. subst (λ k. k < length d.columns) (same_Some n m g) (within_places (λ c. same_text c.name name) d.columns n f))
+place_is d keyed RowIdName p e = subst (IsPlace d) (same_Some RowId p e) (λ m g. cc)
+place_is d keyed MarkName p e = subst (IsPlace d) (same_Some Mark p e) keyed
 
 column_is : (defs : List TableDef) → AreKeyed defs → (c : ColName) (s : Source) → IsSource defs s → (r : ColRef) → column_in c s ≡ Some r → IsColumn defs r
 column_is defs keyed c s is r e = by (is_qualified_by c.qualifier s) (part_named s.def c.part) refl e
@@ -81,7 +82,7 @@ column_is defs keyed c s is r e = by (is_qualified_by c.qualifier s) (part_named
     by : (b : Bool) (o : Option ColPart) → part_named s.def c.part ≡ o → cond b (option_map (λ p. record { table = s.table; part = p }) o) None ≡ Some r → IsColumn defs r
     by false o f e = cc
     by true None f e = cc
-    by true (Some p) f e = subst (IsColumn defs) (some_same (record { table = s.table; part = p }) r e) (is.0, place p f)
+    by true (Some p) f e = subst (IsColumn defs) (same_Some (record { table = s.table; part = p }) r e) (is.0, place p f)
 
 all_columns : (defs : List TableDef) → AreKeyed defs → (c : ColName) (ss : List Source) → Each (IsSource defs) ss → Each (IsColumn defs) (filter_map (column_in c) ss)
 all_columns defs keyed c [] h = tt
@@ -198,8 +199,8 @@ module _ (defs : List TableDef) (joins : List Edge) (P : Edge → Type 0) (L : �
   directed_is tree n j e h d = by (leads_to defs tree n j) (leads_to defs tree n (turned j)) d
     where
       by : (a b : Bool) → cond a (Some j) (where_true b (turned j)) ≡ Some e → P e
-      by true b d = subst P (some_same j e d) h
-      by false true d = subst P (some_same (turned j) e d) (turns j h)
+      by true b d = subst P (same_Some j e d) h
+      by false true d = subst P (same_Some (turned j) e d) (turns j h)
       by false false d = cc
 
   branch_is : (tree : Tree) (n : ℕ) (e : Edge) → branch_to defs joins tree n ≡ Some e → P e
@@ -227,7 +228,7 @@ module _ (defs : List TableDef) (joins : List Edge) (P : Edge → Type 0) (L : �
   spanning_is from m tree l d = by (length (tree_from defs joins from m).tables == length from) d
     where
       by : (b : Bool) → where_true b (tree_from defs joins from m) ≡ Some tree → Grown tree
-      by true d = subst Grown (some_same (tree_from defs joins from m) tree d) (grow_is (length from) from (record { tables = m ∷ []; edges = [] }) (tt, (l, tt)))
+      by true d = subst Grown (same_Some (tree_from defs joins from m) tree d) (grow_is (length from) from (record { tables = m ∷ []; edges = [] }) (tt, (l, tt)))
       by false d = cc
 
   pub star_is : (from : List ℕ) (tree : Tree) → Each L from → star_of defs joins from ≡ Some tree → Grown tree

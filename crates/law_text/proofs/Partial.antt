@@ -1,5 +1,6 @@
 -- Texts that are equal from FROM on up to ORDER BY are queries that are equal in all but their items and ORDER BY.
 use Rattle.std.proofs.Common.{◌≡◌, ◌∙◌, List, [], ◌∷◌, refl, ap, sym, subst₂, true, false, Bool, ◌&&◌, cond, not, Option, Some, None, codes, option_map}
+use Rattle.std.proofs.lemmas.Bool.{and_parts}
 use Rattle.std.proofs.lemmas.List.Sums.{take_while-cons}
 use Rattle.std.proofs.lemmas.Slice.Eq.{bytes_eq-Decides}
 use Rattle.wh_base.specs.Lists.{is_empty, option_case, same_text, where_true}
@@ -83,10 +84,6 @@ kind_is kinds.Number h = cc
 kind_is kinds.Text h = cc
 kind_is kinds.Mark h = cc
 
-both-true : (b c : Bool) → (b && c) ≡ true → (b ≡ true) × (c ≡ true)
-both-true true c h = (refl, h)
-both-true false c h = cc
-
 -- where the rule reads, FROM stands first
 from-first : (i : List RawItem) (ts : List Token) (p : RawQuery × List Token) → from_rule i ts ≡ Some p → part ts ≡ before_order ts
 from-first i [] p h = cc
@@ -97,7 +94,7 @@ from-first i (t ∷ ts) p h = by (is_token kinds.Name (codes "FROM") t) refl h
 
     by : (b : Bool) → is_token kinds.Name (codes "FROM") t ≡ b → option_case {A = Token × List Token} (where_true b (t, ts)) None (λ q. rest q.1) ≡ Some p → part (t ∷ ts) ≡ before_order (t ∷ ts)
     by true e k =
-        let both : (same_token_kind t.kind kinds.Name ≡ true) × (same_text t.text (codes "FROM") ≡ true) = both-true (same_token_kind t.kind kinds.Name) (same_text t.text (codes "FROM")) e in
+        let both : (same_token_kind t.kind kinds.Name ≡ true) × (same_text t.text (codes "FROM") ≡ true) = and_parts (same_token_kind t.kind kinds.Name) (same_text t.text (codes "FROM")) e in
         let kind : t.kind ≡ kinds.Name = kind_is t.kind both.0 in
         let text : t.text ≡ codes "FROM" = (bytes_eq-Decides t.text (codes "FROM")).0 both.1 in
         let from : is_from t ≡ true = λ j. same_kind (kind j) kinds.Name && same_text (text j) (codes "FROM") in

@@ -1,5 +1,6 @@
 -- Texts that are equal up to ORDER BY read as queries that are equal in all but ORDER BY.
-use Rattle.std.proofs.Common.{◌≡◌, ℕ, List, [], ◌∷◌, refl, subst₂, true, false, Bool, ◌&&◌, cond, not, take_while, Option, Some, None, codes, ℤ}
+use Rattle.std.proofs.Common.{◌≡◌, ℕ, List, [], ◌∷◌, refl, subst₂, true, false, Bool, cond, not, take_while, Option, Some, None, codes, ℤ}
+use Rattle.std.proofs.lemmas.Bool.{and_parts}
 use Rattle.std.proofs.lemmas.List.Sums.{take_while-cons}
 use Rattle.std.proofs.lemmas.Slice.Eq.{bytes_eq-Decides}
 use Rattle.wh_base.specs.Lists.{is_empty, option_case, same_text, where_true}
@@ -40,10 +41,6 @@ kinds-same kinds.Mark kinds.Number h = cc
 kinds-same kinds.Mark kinds.Text h = cc
 kinds-same kinds.Mark kinds.Mark h = refl
 
-both-true : (b c : Bool) → (b && c) ≡ true → (b ≡ true) × (c ≡ true)
-both-true true c h = (refl, h)
-both-true false c h = cc
-
 texts-same : (x y : List ℕ) → same_text x y ≡ true → x ≡ y
 texts-same x y h = (bytes_eq-Decides x y).0 h
 
@@ -53,8 +50,8 @@ near-same t u xs ys more true true next h = tt
 near-same t u xs ys more true false next h = cc
 near-same t u xs ys more false true next h = cc
 near-same t u xs ys more false false next h =
-    let both = both-true (same_token t u) (same_tokens xs ys) h in
-    let token = both-true (same_kind t.kind u.kind) (same_text t.text u.text) both.0 in
+    let both = and_parts (same_token t u) (same_tokens xs ys) h in
+    let token = and_parts (same_kind t.kind u.kind) (same_text t.text u.text) both.0 in
     (kinds-same t.kind u.kind token.0, texts-same t.text u.text token.1, next both.1)
 
 end-same : (t : Token) (xs : List Token) (b : Bool) → is_order t ≡ b → same_tokens [] (cond (not b) (t ∷ xs) []) ≡ true → is_order t ≡ true

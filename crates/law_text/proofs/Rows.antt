@@ -1,5 +1,6 @@
 -- What a view stores and what a query means, by its rows and without its order.
-use Rattle.std.proofs.Common.{◌≡◌, ℕ, List, [], ◌∷◌, refl, ap, arith, true, false, Bool, ◌||◌, ◌==◌, map, filter}
+use Rattle.std.proofs.Common.{◌≡◌, ℕ, List, [], ◌∷◌, refl, ap, arith, true, ◌==◌, map, filter}
+use Rattle.std.proofs.lemmas.Bool.{or_left, or_right}
 use Rattle.std.proofs.lemmas.Bool.Decides.{nat_tests}
 use Rattle.wh_base.specs.Lists.{has_number, sorted_by}
 use Rattle.wh_base.specs.Tables.{Base, Table, row_at, table_at}
@@ -17,22 +18,14 @@ same-rows q r base h =
 
 -- ---- base states that differ in other tables
 
-either-true : (b c : Bool) → c ≡ true → (b || c) ≡ true
-either-true true c h = refl
-either-true false c h = h
-
-this-true : (b c : Bool) → b ≡ true → (b || c) ≡ true
-this-true true c h = refl
-this-true false c h = cc
-
 same-number : (n : ℕ) → (n == n) ≡ true
 same-number n = grind (arith, nat_tests)
 
 rows-same : (base other : Base) (ns : List ℕ) → ((n : ℕ) → has_number ns n ≡ true → table_at base n ≡ table_at other n) → map (rows_at base) ns ≡ map (rows_at other) ns
 rows-same base other [] h = refl
 rows-same base other (n ∷ ns) h =
-    let first : rows_at base n ≡ rows_at other n = ap (λ (t : Table). map (row_at t) t.rows) (h n (this-true (n == n) (has_number ns n) (same-number n))) in
-    let rest : map (rows_at base) ns ≡ map (rows_at other) ns = rows-same base other ns (λ m k. h m (either-true (n == m) (has_number ns m) k)) in
+    let first : rows_at base n ≡ rows_at other n = ap (λ (t : Table). map (row_at t) t.rows) (h n (or_left (n == n) (has_number ns n) (same-number n))) in
+    let rest : map (rows_at base) ns ≡ map (rows_at other) ns = rows-same base other ns (λ m k. h m (or_right (n == m) (has_number ns m) k)) in
     rw (first, rest) refl
 
 abbrev over : StarQuery → List (List RowAt) → List ViewEntry

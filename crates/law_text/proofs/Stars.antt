@@ -1,5 +1,6 @@
 -- The star form of a query without its ORDER BY.
 use Rattle.std.proofs.Common.{◌≡◌, List, [], ◌∷◌, refl, ap, sym, ◌∙◌, map, Option, Some, None, Result, Ok, option_map}
+use Rattle.std.proofs.lemmas.Option.{same_Some}
 use Rattle.wh_base.specs.Lists.{or_refuse, unless, unless_then, ◌>>=◌}
 use Rattle.wh_base.specs.declared.columns.ColRef.{ColRef}
 use Rattle.wh_base.specs.declared.queries.ColName.{ColName}
@@ -47,13 +48,10 @@ resolved-formed defs a q h =
     at-tree (star_of defs (joins_of column a) (map (λ s. s.table) sources)) (λ tree. where_true (not (grouping_holds a column items (map column a.groups))) NotGrouped) (star_query a column) q
     (after-refusals refusals (star_form defs a sources) q h)
 
-some-same : {A : Type 0} (x y : A) → Some x ≡ Some y → x ≡ y
-some-same x y h = cc
-
 pub same-stars : (defs : List TableDef) (a b : RawQuery) (q r : StarQuery) → without_order a ≡ without_order b → resolve defs a ≡ Ok q → resolve defs b ≡ Ok r → unordered q ≡ unordered r
 same-stars defs a b q r h left right =
     let same : formed defs a ≡ formed defs b = ap (λ (x : RawQuery). formed defs x) h in
-    some-same (unordered q) (unordered r) (sym (resolved-formed defs a q left) ∙ same ∙ resolved-formed defs b r right)
+    same_Some (unordered q) (unordered r) (sym (resolved-formed defs a q left) ∙ same ∙ resolved-formed defs b r right)
 
 -- ---- from FROM on
 
@@ -79,4 +77,4 @@ resolved-from defs a q h =
 pub same-from : (defs : List TableDef) (a b : RawQuery) (q r : StarQuery) → from_written a ≡ from_written b → resolve defs a ≡ Ok q → resolve defs b ≡ Ok r → from_formed q ≡ from_formed r
 same-from defs a b q r h left right =
     let same : formed-from defs a ≡ formed-from defs b = ap (λ (x : RawQuery). formed-from defs x) h in
-    some-same (from_formed q) (from_formed r) (sym (resolved-from defs a q left) ∙ same ∙ resolved-from defs b r right)
+    same_Some (from_formed q) (from_formed r) (sym (resolved-from defs a q left) ∙ same ∙ resolved-from defs b r right)

@@ -1,8 +1,8 @@
 -- What a statement of a block may ask of its table: new rows, new values of rows, or that rows go.
-use Rattle.std.proofs.Common.{◌<◌, ◌≡◌, ◌∙◌, ap, refl, arith, ℕ, zero, suc, Bool, true, false, not, List, [], ◌∷◌, length, map, Option, None, ◌==◌}
+use Rattle.std.proofs.Common.{◌<◌, ◌≡◌, ◌∙◌, ap, refl, arith, ℕ, zero, suc, Bool, false, not, List, [], ◌∷◌, length, map, Option, None, ◌==◌}
 use Rattle.std.specs.List.{filter}
 use Rattle.std.specs.Prelude.{Ok, flat_map, unwrap_or, zip}
-use Rattle.std.proofs.lemmas.Bool.{eqb-true}
+use Rattle.std.proofs.lemmas.Bool.{eqb-true, not-false}
 use Rattle.std.proofs.lemmas.List.{length-map}
 use Rattle.wh_base.specs.Lists.{count_from, first_of, first_some, unless}
 use Rattle.wh_base.specs.Tables.{Base, Row, Table, table_at}
@@ -54,14 +54,10 @@ zipped [] ys e = refl
 zipped (x ∷ xs) [] e = absurd (omega arith)
 zipped (x ∷ xs) (y ∷ ys) e = ap suc (zipped xs ys (suc_same (length xs) (length ys) e))
 
-not_false : (b : Bool) → not b ≡ false → b ≡ true
-not_false true e = refl
-not_false false e = absurd (cc)
-
 loaded_wide : (d : TableDef) (fields : List (List ℕ)) → load_row_refusal d fields ≡ None → IsWide d (loaded_row d fields)
 loaded_wide d fields none =
     let same : not (length d.columns == length fields) ≡ false = none_where _ _ (none_first (wrong_number d d.columns fields) (first_of (field_misfits d) (zip d.columns fields) ∷ []) none) in
-    length-map (zip d.columns fields) _ ∙ zipped d.columns fields (eqb-true (length d.columns) (length fields) (not_false (length d.columns == length fields) same))
+    length-map (zip d.columns fields) _ ∙ zipped d.columns fields (eqb-true (length d.columns) (length fields) (not-false (length d.columns == length fields) same))
 
 -- ---- the four statements
 

@@ -1,5 +1,6 @@
 -- What the steps make of the base state: each law of it is proved statement by statement.
-use Rattle.std.proofs.Common.{Bool, not, true, false, true≢false, nat_le, ◌||◌, ◌⊎◌, inl, inr, ◌≡◌, ◌∙◌, sym, ap, refl, subst, arith, ℕ, zero, suc, ◌+◌, List, [], ◌∷◌, ◌++◌, length, map, Option, None, Some}
+use Rattle.std.proofs.Common.{Bool, not, true, nat_le, ◌||◌, ◌⊎◌, inl, inr, ◌≡◌, ◌∙◌, sym, ap, refl, subst, arith, ℕ, zero, suc, ◌+◌, List, [], ◌∷◌, ◌++◌, length, map, Option, None, Some}
+use Rattle.std.proofs.lemmas.Bool.{not-false}
 use Rattle.std.specs.Prelude.{codes, Err, Ok, Result, option_map}
 use Rattle.wh_base.specs.Lists.{first_of, first_some, or_refuse, same_text, unless, where_true, ◌>>=◌}
 use Rattle.wh_base.specs.Values.{literal_value}
@@ -33,11 +34,12 @@ use Rattle.law_trace.proofs.Growing.{SamePast, dues_past}
 use Rattle.law_trace.proofs.Listed.{Each, each_append}
 use Rattle.law_trace.proofs.Moves.{Adds, Alters, Commits, Creates, Declares, Drops, Forgets, Installs, Logs, Move, Purges, Stays, Switches, Withdraws}
 pub use Rattle.law_trace.proofs.Outcomes.{none_where}
-use Rattle.law_trace.proofs.Outcomes.{EachOk, bind_ok, ok_holds, unless_ok}
+use Rattle.law_trace.proofs.Outcomes.{EachOk, bind_ok, ok_holds, refused_not, unless_ok}
 use Rattle.law_trace.proofs.Stepping.{moves}
 use Rattle.law_trace.proofs.Tabling.{IsBounded, base_later, base_latest, bounded_of, installed_base}
 use Rattle.law_trace.proofs.Traces.{by_events, state_push}
 use Rattle.law_trace.specs.Reached.{catalog_of}
+pub use Rattle.law_lists.proofs.Options.{none_each}
 
 -- ---- what wasn't refused
 
@@ -52,10 +54,6 @@ none_rest (Some x) rest e = absurd (cc)
 pub none_map : {A B : Type 0} (f : A → B) (o : Option A) → option_map f o ≡ None → o ≡ None
 none_map f None e = refl
 none_map f (Some x) e = absurd (cc)
-
-pub none_each : {A B : Type 0} (h : A → Option B) (xs : List A) → first_of h xs ≡ None → Each (λ x. h x ≡ None) xs
-none_each h [] e = tt
-none_each h (x ∷ xs) e = (none_first (h x) (map h xs) e, none_each h xs (none_rest (h x) (map h xs) e))
 
 -- ---- a statement that goes through
 
@@ -122,11 +120,6 @@ pub data Regroups (kept : ℕ) (t : Table) (before after : List (Part × Interva
   Merges : (s : MergeParts) (p q : Part × Interval) → part_named t s.lower ≡ Some p → part_named t s.upper ≡ Some q → merge_refusal kept t s p q ≡ None
       → before ≡ p ∷ q ∷ [] → after ≡ merged_part t s p q ∷ [] → Regroups kept t before after
 
--- what a SPLIT and a MERGE that go through meet
-not_not : (b : Bool) → not b ≡ false → b ≡ true
-not_not true e = refl
-not_not false e = absurd (true≢false e)
-
 fifth : {A : Type 0} (a b c d e f : Option A) → first_some (a ∷ b ∷ c ∷ d ∷ e ∷ f ∷ []) ≡ None → (e ≡ None) × (f ≡ None)
 fifth a b c d e f none =
     let rest : first_some (e ∷ f ∷ []) ≡ None = none_rest d (e ∷ f ∷ []) (none_rest c (d ∷ e ∷ f ∷ []) (none_rest b (c ∷ d ∷ e ∷ f ∷ []) (none_rest a (b ∷ c ∷ d ∷ e ∷ f ∷ []) none))) in
@@ -140,7 +133,7 @@ split_met kept t s p key none =
     let both : (where_true (not (is_inside p.1 at)) (PartitionBound t.def.name s.name) ≡ None) × (versions_refusal kept t ended ≡ None) =
     fifth (where_true (is_name_of_other t ended s.lower) (NameTaken s.lower)) (where_true (is_name_of_other t ended s.upper || same_text s.lower s.upper) (NameTaken s.upper)) (where_true (nat_le max_parts (length t.parts)) (TooManyObjects Partitions))
     (where_true (not (bound_fits (key_kind t.def key) (Some at))) (ValueDoesNotFit t.def.name (column_name t.def key))) (where_true (not (is_inside p.1 at)) (PartitionBound t.def.name s.name)) (versions_refusal kept t ended) none in
-    (not_not (is_inside p.1 at) (none_where (not (is_inside p.1 at)) (PartitionBound t.def.name s.name) both.0), both.1)
+    (not-false (is_inside p.1 at) (none_where (not (is_inside p.1 at)) (PartitionBound t.def.name s.name) both.0), both.1)
 
 pub merge_met : (kept : ℕ) (t : Table) (s : MergeParts) (p q : Part × Interval) → merge_refusal kept t s p q ≡ None
     → (adjoins t.parts p.0.number q.0.number ≡ true) × (versions_refusal kept t (p.0.number ∷ q.0.number ∷ []) ≡ None)
@@ -150,7 +143,7 @@ merge_met kept t s p q none =
     let apart : Option Refusal = where_true (not (adjoins t.parts p.0.number q.0.number)) (PartitionBound t.def.name s.lower) in
     let versions : Option Refusal = versions_refusal kept t ended in
     let rest : first_some (apart ∷ versions ∷ []) ≡ None = none_rest named (apart ∷ versions ∷ []) none in (
-      not_not (adjoins t.parts p.0.number q.0.number) (none_where (not (adjoins t.parts p.0.number q.0.number)) (PartitionBound t.def.name s.lower) (none_first apart (versions ∷ []) rest)),
+      not-false (adjoins t.parts p.0.number q.0.number) (none_where (not (adjoins t.parts p.0.number q.0.number)) (PartitionBound t.def.name s.lower) (none_first apart (versions ∷ []) rest)),
       none_first versions [] (none_rest apart (versions ∷ []) rest),
     )
 
@@ -173,10 +166,6 @@ pub data CutBy (kept : ℕ) (base : Base) (n : ℕ) (t : Table) (a : Altering) :
   ByRegroup : (before after : List (Part × Interval)) → Regroups kept t before after → a ≡ regrouped t before after → CutBy kept base n t a
   ByMovement : (on : Bool) → a ≡ with_movement t on → CutBy kept base n t a
 
-is_ok : {A E : Type 0} (o : Option A) (e : E) (x : A) → or_refuse o e ≡ Ok x → o ≡ Some x
-is_ok None e x h = absurd (cc)
-is_ok (Some y) e x h = cc
-
 cuts_by : (kept : ℕ) (base : Base) (n : ℕ) (t : Table) (change : PartChange) → EachOk (CutBy kept base n t) (alter_part kept base n t change)
 cuts_by kept base n t (Add r) =
     bind_ok (CutBy kept base n t) (or_refuse t.def.part_key (PartitionBound t.def.name r.name)) (λ key. unless (add_refusal t r key) (added t r))
@@ -185,22 +174,22 @@ cuts_by kept base n t (DropPart name) =
     let last : Option Refusal = where_true (is_only_part t) (LastPartition t.def.name) in
     bind_ok (CutBy kept base n t) (or_refuse (part_named t name) (NoSuchObject name)) (λ p. unless (first_some (referred_refusal base n ∷ last ∷ [])) (dropped t p))
     (λ p e. unless_ok (CutBy kept base n t) (first_some (referred_refusal base n ∷ last ∷ [])) (dropped t p)
-    (λ none. ByDrop name p (is_ok (part_named t name) (NoSuchObject name) p e) (none_first (referred_refusal base n) (last ∷ []) none) refl))
+    (λ none. ByDrop name p (refused_not (part_named t name) (NoSuchObject name) p e) (none_first (referred_refusal base n) (last ∷ []) none) refl))
 cuts_by kept base n t (Truncate name) =
     bind_ok (CutBy kept base n t) (or_refuse (part_named t name) (NoSuchObject name)) (λ p. unless (referred_refusal base n) (truncated t p))
-    (λ p e. unless_ok (CutBy kept base n t) (referred_refusal base n) (truncated t p) (λ none. ByTruncate name p (is_ok (part_named t name) (NoSuchObject name) p e) none refl))
+    (λ p e. unless_ok (CutBy kept base n t) (referred_refusal base n) (truncated t p) (λ none. ByTruncate name p (refused_not (part_named t name) (NoSuchObject name) p e) none refl))
 cuts_by kept base n t (Split s) =
     bind_ok (CutBy kept base n t) (or_refuse t.def.part_key (NoSuchObject s.name)) (λ key. or_refuse (part_named t s.name) (NoSuchObject s.name) >>= (λ p. unless (split_refusal kept t s p key) (split_up t s p)))
     (λ key e. bind_ok (CutBy kept base n t) (or_refuse (part_named t s.name) (NoSuchObject s.name)) (λ p. unless (split_refusal kept t s p key) (split_up t s p))
     (λ p f. unless_ok (CutBy kept base n t) (split_refusal kept t s p key) (split_up t s p)
     (λ none. ByRegroup (p ∷ []) (lower_half t s p ∷ upper_half t s p ∷ [])
-    (Splits s p key (is_ok t.def.part_key (NoSuchObject s.name) key e) (is_ok (part_named t s.name) (NoSuchObject s.name) p f) none refl refl) refl)))
+    (Splits s p key (refused_not t.def.part_key (NoSuchObject s.name) key e) (refused_not (part_named t s.name) (NoSuchObject s.name) p f) none refl refl) refl)))
 cuts_by kept base n t (Merge s) =
     bind_ok (CutBy kept base n t) (or_refuse (part_named t s.lower) (NoSuchObject s.lower)) (λ p. or_refuse (part_named t s.upper) (NoSuchObject s.upper) >>= (λ q. unless (merge_refusal kept t s p q) (merged t s p q)))
     (λ p e. bind_ok (CutBy kept base n t) (or_refuse (part_named t s.upper) (NoSuchObject s.upper)) (λ q. unless (merge_refusal kept t s p q) (merged t s p q))
     (λ q f. unless_ok (CutBy kept base n t) (merge_refusal kept t s p q) (merged t s p q)
     (λ none. ByRegroup (p ∷ q ∷ []) (merged_part t s p q ∷ [])
-    (Merges s p q (is_ok (part_named t s.lower) (NoSuchObject s.lower) p e) (is_ok (part_named t s.upper) (NoSuchObject s.upper) q f) none refl refl) refl)))
+    (Merges s p q (refused_not (part_named t s.lower) (NoSuchObject s.lower) p e) (refused_not (part_named t s.upper) (NoSuchObject s.upper) q f) none refl refl) refl)))
 cuts_by kept base n t (Movement on) =
     bind_ok (CutBy kept base n t) (or_refuse t.def.part_key (PartitionBound t.def.name (codes "-"))) (λ key. Ok (with_movement t on)) (λ key e. ByMovement on refl)
 

@@ -1,8 +1,10 @@
 -- A block leaves the rows of a table whose keys aren't in the partitions that it touches.
 use Rattle.std.proofs.Common.{◌≡◌, ◌∙◌, sym, ap, refl, subst, arith, ℕ, zero, suc, ◌+◌, ◌<◌, Bool, true, false, true≢false, cond, not, List, [], ◌∷◌, ◌++◌, length, map, Option, None, Some, ◌==◌, ◌||◌, ◌⊎◌, inl, inr}
+use Rattle.law_lists.proofs.Options.{find_passes}
+use Rattle.std.proofs.lemmas.Option.{same_Some}
 use Rattle.std.specs.List.{enumerate_from, filter, find, flat_map, fold, list_any}
 use Rattle.std.specs.Prelude.{Ok, option_map}
-use Rattle.std.proofs.lemmas.Bool.{eq-eqb, eqb-true}
+use Rattle.std.proofs.lemmas.Bool.{eq-eqb, eqb-true, false_from_ne_true, not-false, or_right}
 use Rattle.wh_base.specs.Lists.{option_case}
 use Rattle.wh_base.specs.Tables.{Base, Row, Table, TableChange, mark_of, part_intervals, part_of_key, rows_after, table_after, table_at, value_at, with_table}
 use Rattle.wh_base.specs.Values.{interval_has}
@@ -15,10 +17,9 @@ use Rattle.def_effect.specs.Block.{Asks, Progress, deleted_change, effect, inser
 use Rattle.def_history.specs.Catalog.{Touched}
 use Rattle.def_journal.specs.Committing.{changes_in, commit_touches, part_touch, sides, touched_parts}
 use Rattle.law_trace.proofs.Basing.{asked_changes, block_keeps, made, made_of}
-use Rattle.law_trace.proofs.Listed.{Each, each_left, each_right, each_unmap, each_weaker, some_same}
+use Rattle.law_trace.proofs.Listed.{Each, each_left, each_right, each_unmap, each_weaker}
 use Rattle.law_trace.proofs.Rising.{Comes, Goes, Sound, Step, Steps, Turns, changed_row, sound_after, steps_made, weight}
 use Rattle.law_trace.proofs.Untouched.{with_other, differ_of}
-use Rattle.law_trace.proofs.Tested.{or_right, was_true, found_passes}
 use Rattle.law_trace.proofs.Marks.{IsApart, IsGone, found_part, kept, kept_changed, kept_fewer, kept_more, number_is, part_for, says}
 
 -- ---- the rows that a list of changes is about
@@ -66,7 +67,7 @@ module _ (out : ℕ → Value → Bool) (key : Option ℕ) (parts : List Part) w
       let own : SidesGone (deleted_change r) = subst SidesGone is gone in
       ap (λ c. kept out key parts (rows_after rows c)) is
       ∙ kept_fewer out key parts (λ q. not (q.rowid == r.rowid)) rows
-      (each_weaker (λ q. (q.rowid == r.rowid) ≡ true → q ≡ r) (λ q. not (q.rowid == r.rowid) ≡ false → GoneRow q) (λ q alone e. subst GoneRow (sym (alone (was_true (q.rowid == r.rowid) e))) own.0) rows
+      (each_weaker (λ q. (q.rowid == r.rowid) ≡ true → q ≡ r) (λ q. not (q.rowid == r.rowid) ≡ false → GoneRow q) (λ q alone e. subst GoneRow (sym (alone (not-false (q.rowid == r.rowid) e))) own.0) rows
       (alone_is r rows has.alone))
 
   steps_kept : (t : Table) (m : ℕ) (rows : List Row) (cs : List Change) → Steps t m rows cs → Each SidesGone cs → kept out key parts (fold rows_after rows cs) ≡ kept out key parts rows
@@ -167,7 +168,7 @@ filtered_found P test h (y ∷ xs) x each e passes = by (h y) e (filtered_found 
     first_of false k f = absurd (true≢false (sym f))
 
     by : (b : Bool) → cond b (Some y) (find h xs) ≡ Some x → (Each P (filter test xs) → find h xs ≡ Some x → test x ≡ true → P x) → P x
-    by true f rest = let same : y ≡ x = some_same y x f in subst P same (first_of (test y) each (ap test same ∙ passes))
+    by true f rest = let same : y ≡ x = same_Some y x f in subst P same (first_of (test y) each (ap test same ∙ passes))
     by false f rest = rest (rest_of (test y) each) f passes
 
 -- the table with this number among the tables with their numbers
@@ -190,10 +191,6 @@ each_among {A} (x ∷ xs) = (
 abbrev pub IsOutside : (ℕ → Value → Bool) → ℕ → Interval → Type 0
 IsOutside out m i = (v : Value) → out m v ≡ true → interval_has i v ≡ false
 
-pub never_true : (b : Bool) → (b ≡ true → ⊥) → b ≡ false
-never_true true h = absurd (h refl)
-never_true false h = refl
-
 -- the touch is of another table, or what is asked for is outside of it
 abbrev pub TouchOutside : (ℕ → Value → Bool) → ℕ → Touched → Type 0
 TouchOutside out n t = (t.table == n) ≡ true → IsOutside out t.touch.number t.touch.interval
@@ -212,11 +209,11 @@ module _ (out : ℕ → Value → Bool) (t : Table) (cs : List Change) (touched 
           let hit : list_any (λ ws. mark_of t ws == p.0.number) all_sides ≡ true = among (λ ws. mark_of t ws == p.0.number) (eq-eqb (mark_of t vs) p.0.number number) in
           let free : interval_has p.1 (value_at vs k) ≡ false =
           filtered_found (λ q. IsOutside out q.0.number q.1) (λ q. list_any (λ ws. mark_of t ws == q.0.number) all_sides) (λ q. interval_has q.1 (value_at vs k)) (part_intervals t) p touched found hit (value_at vs k) e in
-          true≢false (sym (found_passes (λ q. interval_has q.1 (value_at vs k)) (part_intervals t) p found) ∙ free)
+          true≢false (sym (find_passes (λ q. interval_has q.1 (value_at vs k)) (part_intervals t) p found) ∙ free)
 
       by_part : (k : ℕ) → t.def.part_key ≡ Some k → (o : Option (Part × Interval)) → part_of_key t (value_at vs k) ≡ o → says out (value_at vs k) (option_map (λ p. p.0) o) ≡ false
       by_part k is None found = refl
-      by_part k is (Some p) found = never_true (out p.0.number (value_at vs k)) (outside k is p found)
+      by_part k is (Some p) found = false_from_ne_true (out p.0.number (value_at vs k)) (outside k is p found)
 
       by : (o : Option ℕ) → t.def.part_key ≡ o → option_case o false (λ k. says out (value_at vs k) (part_for t.parts (value_at vs k))) ≡ false
       by None is = refl

@@ -3,7 +3,6 @@ use Rattle.std.proofs.Common.{◌≡◌, ◌∙◌, sym, ap, refl, subst, arith,
 use Rattle.std.specs.List.{filter, list_any}
 use Rattle.std.specs.Ordering.{is_lt}
 use Rattle.std.specs.Prelude.{is_some, nat_le, nat_lt, option_and_then}
-use Rattle.std.proofs.lemmas.Bool.{eqb-true}
 use Rattle.std.proofs.lemmas.List.{append-nil, append_assoc, map-append}
 use Rattle.wh_base.specs.Lists.{first_of, first_some, has_text, last, option_case, same_text, where_true}
 use Rattle.wh_base.specs.Tables.{Table, column_name}
@@ -27,7 +26,7 @@ use Rattle.def_effect.specs.Define.{bound_fits, bound_refusal, define_refusal, f
 use Rattle.def_effect.specs.Partitions.{add_refusal, added, added_part, bounds_of, dropped, is_inside, key_kind, lower_half, merged_part, part_named, regrouped, replaced, upper_half}
 use Rattle.law_trace.proofs.Basing.{KeepsTable, Merges, Regroups, Splits, each_table, merge_met, none_first, none_rest, none_where, split_met}
 use Rattle.law_trace.proofs.Regrouping.{Pair, Spans, less_on, lower_bound, merge_spans, pair_at, split_place, split_spans, top_of, upper_bound}
-use Rattle.law_trace.proofs.Listed.{Each, Pairs, each_append, each_filter, each_left, each_right, each_two, each_weaker, eq_false, pairs_across, pairs_append, pairs_filter, pairs_left, pairs_push, pairs_right}
+use Rattle.law_trace.proofs.Listed.{Each, Pairs, below_differs, each_append, each_filter, each_left, each_right, each_two, each_weaker, eq_false, pairs_across, pairs_append, pairs_filter, pairs_left, pairs_push, pairs_right}
 
 abbrev pub IsOther : Part → Part → Type 0
 IsOther p q = (p.number == q.number) ≡ false
@@ -117,13 +116,6 @@ numbered_from n (r ∷ rs) = (
   each_weaker (λ p. (suc n ≤ p.number) × (p.number < suc n + length rs)) (λ p. (n ≤ p.number) × (p.number < n + length (r ∷ rs))) (λ p h. (omega (arith, h.0), omega (arith, h.1)))
       (numbered_parts (suc n) rs) (numbered_from (suc n) rs),
 )
-
-below_differs : (m n : ℕ) → m < n → (m == n) ≡ false
-below_differs m n low = by (m == n) refl
-  where
-    by : (b : Bool) → (m == n) ≡ b → (m == n) ≡ false
-    by true e = let same : m ≡ n = eqb-true m n e in absurd (omega arith)
-    by false e = e
 
 numbered_other : (n : ℕ) (rs : List NewRange) → Pairs IsOther (numbered_parts n rs)
 numbered_other n [] = tt

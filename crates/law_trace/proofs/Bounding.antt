@@ -1,8 +1,9 @@
 -- No more row versions are kept than there may be.
 use Rattle.std.proofs.Common.{None, ◌≡◌, ◌∙◌, sym, ap, refl, subst, arith, ℕ, suc, ◌+◌, ◌≤◌, Bool, true, false, cond, not, List, [], ◌∷◌, ◌++◌, length, map, nat_le, nat_lt, ◌&&◌, ◌||◌, true≢false}
+use Rattle.law_lists.proofs.Each.{Each-from_none}
 use Rattle.std.specs.List.{filter, list_any}
 use Rattle.std.specs.Prelude.{Ok, count_by, flat_map}
-use Rattle.std.proofs.lemmas.Bool.{leb-true, ltb-false}
+use Rattle.std.proofs.lemmas.Bool.{le-leb, leb-true, ltb-false, not-true, not_from_false, or_parts}
 use Rattle.std.proofs.lemmas.List.{append-nil, length-append, length-map}
 use Rattle.std.proofs.lemmas.List.Sums.{count_by-le-length, length-filter}
 use Rattle.wh_base.specs.Lists.{distinct, distinct_after}
@@ -23,13 +24,11 @@ use Rattle.def_journal.specs.Committing.{after_block, do_dues}
 use Rattle.def_journal.specs.Journal.{state_after, state_of}
 use Rattle.def_journal.specs.State.{State, with_base}
 use Rattle.law_trace.proofs.Basing.{ByAdd, ByDrop, ByMovement, ByRegroup, ByTruncate, CutBy, Merges, Regroups, Splits, asked_changes, block_keeps, cut_by, made, merge_met, none_where, split_met}
-use Rattle.law_trace.proofs.Counting.{AreKnown, IsPast, altered_kept, altered_places, any_as, any_false, block_gone, changed_new, changed_old, commit_kept, ends, filter_join, grown, kept_grown, kept_same, place, places, there, there_written, versions_old}
+use Rattle.law_trace.proofs.Counting.{AreKnown, IsPast, altered_kept, altered_places, any_as, block_gone, changed_new, changed_old, commit_kept, ends, filter_join, grown, kept_grown, kept_same, place, places, there, there_written, versions_old}
 use Rattle.law_trace.proofs.Finishing.{finished}
-use Rattle.law_trace.proofs.Fitting.{not_true}
 use Rattle.law_trace.proofs.Growing.{SamePast, changes_bounded, installed_past, past_bounded, reached, renumbered_bounded}
-use Rattle.law_trace.proofs.Listed.{Each, each_weaker, le_true, or_second}
+use Rattle.law_trace.proofs.Listed.{Each, any_false, each_weaker}
 use Rattle.law_trace.proofs.Moves.{Adds, Alters, Commits, Creates, Declares, Drops, Forgets, Installs, Logs, Move, Purges, Stays, Switches, Withdraws, installed}
-use Rattle.law_trace.proofs.Parenting.{any_each}
 use Rattle.law_trace.proofs.Rising.{Sound}
 use Rattle.law_trace.proofs.Fitting.{trace_sound}
 use Rattle.law_trace.proofs.Stepping.{moves}
@@ -54,15 +53,12 @@ at_most p xs =
     let most : count_by p xs ≤ length xs = count_by-le-length p xs in
     omega arith
 
-not_of : (b : Bool) → b ≡ false → not b ≡ true
-not_of b h = ap not h
-
 -- a version that hasn't ended after a new base state hadn't before
 alive_before : (c : Catalog) (base : Base) (news : List TableChange) (given : List (ℕ × ℕ)) → Each (IsPast c) c.past → (v : ℕ × (ℕ × ℕ)) → not (ended_by (grown c base news given) c.oldest v) ≡ true → not (ended_by c c.oldest v) ≡ true
 alive_before c base news given bounded v e =
     let g : Catalog = grown c base news given in
-    let rest : list_any (ends g c.oldest v) c.past ≡ false = or_second (ends g c.oldest v (suc c.scn, base)) (list_any (ends g c.oldest v) c.past) (not_true (ended_by g c.oldest v) e) in
-    not_of (ended_by c c.oldest v)
+    let rest : list_any (ends g c.oldest v) c.past ≡ false = (or_parts (ends g c.oldest v (suc c.scn, base)) (list_any (ends g c.oldest v) c.past) (not-true (ended_by g c.oldest v) e)).1 in
+    not_from_false (ended_by c c.oldest v)
     (sym (any_as (ends g c.oldest v) (ends c c.oldest v) c.past
     (each_weaker (IsPast c) (λ p. ends g c.oldest v p ≡ ends c c.oldest v p)
     (λ p past. ap (λ ps. within v.0 c.oldest p.0 && (is_among ps v.1 || not (is_live p.1 v.1))) (changed_old c base news given p.0 past)) c.past bounded)) ∙ rest)
@@ -91,12 +87,12 @@ shorter true true d x k e = subst (λ d. (d && x) ≡ false) (k refl) e
 
 alive_longer : (c : Catalog) (oldest : ℕ) → c.oldest ≤ oldest → (v : ℕ × (ℕ × ℕ)) → not (ended_by c oldest v) ≡ true → not (ended_by c c.oldest v) ≡ true
 alive_longer c oldest low v e =
-    not_of (ended_by c c.oldest v)
+    not_from_false (ended_by c c.oldest v)
     (any_false (ends c c.oldest v) c.past
     (each_weaker (λ p. ends c oldest v p ≡ false) (λ p. ends c c.oldest v p ≡ false)
     (λ p none. shorter (nat_lt v.0 p.0) (nat_le p.0 c.oldest) (nat_le p.0 oldest) (is_among (changed_at c p.0) v.1 || not (is_live p.1 v.1))
-    (λ is. let within : p.0 ≤ c.oldest = leb-true p.0 c.oldest is in le_true p.0 oldest (omega arith)) none) c.past
-    (any_each (ends c oldest v) c.past (not_true (ended_by c oldest v) e))))
+    (λ is. let within : p.0 ≤ c.oldest = leb-true p.0 c.oldest is in le-leb p.0 oldest (omega arith)) none) c.past
+    (Each-from_none (ends c oldest v) c.past (not-true (ended_by c oldest v) e))))
 
 -- ---- a block
 

@@ -2,7 +2,7 @@
 use Rattle.std.proofs.Common.{◌≡◌, ◌∙◌, sym, ap, refl, subst, arith, ℕ, zero, suc, ◌<◌, ◌≤◌, Bool, true, false, true≢false, List, [], ◌∷◌, ◌++◌, ◌+◌, length, map, Some, nat_lt, ◌==◌, ◌&&◌, ◌||◌}
 use Rattle.std.specs.List.{list_any}
 use Rattle.std.specs.Prelude.{Ok, unwrap_or}
-use Rattle.std.proofs.lemmas.Bool.{ltb-false, ltb-true}
+use Rattle.std.proofs.lemmas.Bool.{ltb-false, ltb-true, or_parts}
 use Rattle.wh_base.specs.Tables.{Base, Row, Table, is_insert, is_removal, row_at, rows_after, table_after, table_at}
 use Rattle.wh_base.specs.declared.statements.Event.{Event}
 use Rattle.wh_base.specs.declared.statements.Statement.{Statement}
@@ -22,7 +22,7 @@ use Rattle.law_trace.proofs.Fitting.{trace_sound}
 use Rattle.law_trace.proofs.Rising.{Comes, Goes, Sound, Step, Steps, Turns, sound_after, steps_made, weight}
 use Rattle.law_trace.proofs.Basing.{asked_changes, block_keeps, each_with, made_of}
 use Rattle.law_trace.proofs.Growing.{SamePast, dues_past, installed_past}
-use Rattle.law_trace.proofs.Listed.{Each, each_append, each_filter, each_map, or_first, or_second}
+use Rattle.law_trace.proofs.Listed.{Each, each_append, each_filter, each_map}
 use Rattle.law_trace.proofs.Moves.{Adds, Alters, Commits, Creates, Declares, Drops, Forgets, Installs, Logs, Move, Purges, Stays, Switches, Withdraws}
 use Rattle.law_trace.proofs.Stepping.{moves}
 use Rattle.law_trace.proofs.Traces.{by_events, state_push}
@@ -99,7 +99,7 @@ trace_either = by_events (λ trace. NotedEither (catalog_of trace)) tt step
 none_left : (xs : List Change) → Each IsEither xs → list_any is_insert xs ≡ false → list_any is_removal xs ≡ false → xs ≡ []
 none_left [] h insert removal = refl
 none_left (x ∷ xs) h insert removal =
-    absurd (true≢false (sym h.0 ∙ ap (λ b. b || is_removal x) (or_first (is_insert x) (list_any is_insert xs) insert) ∙ or_first (is_removal x) (list_any is_removal xs) removal))
+    absurd (true≢false (sym h.0 ∙ ap (λ b. b || is_removal x) (or_parts (is_insert x) (list_any is_insert xs) insert).0 ∙ (or_parts (is_removal x) (list_any is_removal xs) removal).0))
 
 pub none_noted : (trace : List Event) (table from to : ℕ) → list_any is_insert (changes_of (catalog_of trace) table from to) ≡ false
     → list_any is_removal (changes_of (catalog_of trace) table from to) ≡ false → changes_of (catalog_of trace) table from to ≡ []
@@ -134,8 +134,8 @@ unmoved trace v p t built still =
     let still_then : moved (known c (record v { point = Some p }) t) ≡ false = subst (λ o. moved (known c (record v { point = o }) t) ≡ false) built still in
     let changes : List Change = changes_of c t.0 p c.scn in
     let kept : Bool = maintained c t.0 p c.scn in
-    let rest : (list_any is_removal changes || kept) ≡ false = or_second (list_any is_insert changes) (list_any is_removal changes || kept) still_then in
+    let rest : (list_any is_removal changes || kept) ≡ false = (or_parts (list_any is_insert changes) (list_any is_removal changes || kept) still_then).1 in
     let none : changes ≡ [] =
-    none_noted trace t.0 p c.scn (or_first (list_any is_insert changes) (list_any is_removal changes || kept) still_then) (or_first (list_any is_removal changes) kept rest) in
-    let same : kept ≡ false = or_second (list_any is_removal changes) kept rest in
+    none_noted trace t.0 p c.scn (or_parts (list_any is_insert changes) (list_any is_removal changes || kept) still_then).0 (or_parts (list_any is_removal changes) kept rest).0 in
+    let same : kept ≡ false = (or_parts (list_any is_removal changes) kept rest).1 in
     same_seen (base_now c) (base_at c p) t.0 (untouched_laws.rows trace t.0 p none same) (untouched_laws.whole trace t.0 p none same)

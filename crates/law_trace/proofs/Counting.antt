@@ -1,8 +1,9 @@
 -- Row versions are counted: a block adds those that it makes.
 use Rattle.std.proofs.Common.{◌≡◌, ◌∙◌, sym, ap, refl, subst, arith, ℕ, zero, suc, ◌+◌, ◌<◌, ◌≤◌, Bool, true, false, cond, not, List, [], ◌∷◌, ◌++◌, length, map, Option, None, Some, nat_le, nat_lt, ◌==◌, ◌&&◌, ◌||◌, true≢false}
+use Rattle.law_lists.proofs.Each.{Each-passes}
 use Rattle.std.specs.List.{cons_option, filter, fold, list_any}
 use Rattle.std.specs.Prelude.{Ok, count_by, filter_map, flat_map, option_map}
-use Rattle.std.proofs.lemmas.Bool.{eq-eqb, eqb-true, le-ltb}
+use Rattle.std.proofs.lemmas.Bool.{and_parts, and_right, eq-eqb, eqb-true, le-ltb, lt-leb, not-true}
 use Rattle.std.proofs.lemmas.List.{append-nil, length-append, length-map}
 use Rattle.wh_base.specs.Lists.{distinct, distinct_after}
 use Rattle.wh_base.specs.Tables.{Base, Row, Table, TableChange, empty_table, is_insert, rows_after, table_after, table_at, with_table}
@@ -18,9 +19,8 @@ use Rattle.def_journal.specs.State.{with_base}
 use Rattle.def_journal.specs.Statements.{altered, renumbered}
 use Rattle.law_trace.proofs.Asking.{is_there}
 use Rattle.law_trace.proofs.Basing.{Passes, after, asked_changes, block_keeps, each_with, made, made_of}
-use Rattle.law_trace.proofs.Fitting.{each_passed, not_true}
 use Rattle.law_trace.proofs.Growing.{SamePast, dues_past}
-use Rattle.law_trace.proofs.Listed.{Each, and_false, each_append, each_filter, each_made, each_map, each_weaker, eq_false, filter_behind, le_false}
+use Rattle.law_trace.proofs.Listed.{Each, any_false, below_differs, each_append, each_filter, each_made, each_map, each_weaker, eq_false, filter_behind}
 use Rattle.law_trace.proofs.Rising.{Comes, Goes, Sound, Step, Steps, Turns, changed_row, count_more, each_unit, same_rowid, sound_after, steps_keep, steps_made, weight}
 
 -- ---- lists
@@ -49,20 +49,9 @@ pub any_as : {A : Type 0} (f g : A → Bool) (xs : List A) → Each (λ x. f x �
 any_as f g [] h = refl
 any_as f g (x ∷ xs) h = ap (λ b. b || list_any f xs) h.0 ∙ ap (λ b. g x || b) (any_as f g xs h.1)
 
-pub any_false : {A : Type 0} (p : A → Bool) (xs : List A) → Each (λ x. p x ≡ false) xs → list_any p xs ≡ false
-any_false p [] h = refl
-any_false p (x ∷ xs) h = ap (λ b. b || list_any p xs) h.0 ∙ any_false p xs h.1
-
 flat_as : {A B : Type 0} (f g : A → List B) (xs : List A) → Each (λ x. f x ≡ g x) xs → flat_map f xs ≡ flat_map g xs
 flat_as f g [] h = refl
 flat_as f g (x ∷ xs) h = ap (λ ys. ys ++ flat_map f xs) h.0 ∙ ap (λ ys. g x ++ ys) (flat_as f g xs h.1)
-
-eq_under : (m n : ℕ) → m < n → (m == n) ≡ false
-eq_under m n low = by (m == n) refl
-  where
-    by : (b : Bool) → (m == n) ≡ b → (m == n) ≡ false
-    by true e = let same : m ≡ n = eqb-true m n e in absurd (omega arith)
-    by false e = e
 
 -- ---- a catalog with one base state more
 
@@ -114,14 +103,14 @@ changed_new c base news given known =
     let one : map noted_place (filter (λ n. n.scn == suc c.scn) (c.changes ++ map (noted (suc c.scn)) news)) ≡ map place news =
     ap (λ ns. map noted_place ns)
     (filter_before (λ n. n.scn == suc c.scn) c.changes (map (noted (suc c.scn)) news)
-    (each_weaker (λ n. n.scn ≤ c.scn) (λ n. (n.scn == suc c.scn) ≡ false) (λ n low. eq_under n.scn (suc c.scn) (omega arith)) c.changes known.changes)
+    (each_weaker (λ n. n.scn ≤ c.scn) (λ n. (n.scn == suc c.scn) ≡ false) (λ n low. below_differs n.scn (suc c.scn) (omega arith)) c.changes known.changes)
     ∙ filter_whole (λ n. n.scn == suc c.scn) (map (noted (suc c.scn)) news)
     (each_made (λ n. (n.scn == suc c.scn) ≡ true) (noted (suc c.scn)) (λ ch. eq-eqb (suc c.scn) (suc c.scn) refl) news))
     ∙ map_noted (suc c.scn) news in
     let two : map given_place (filter (λ n. n.scn == suc c.scn) (c.renumbered ++ map (given_row (suc c.scn)) given)) ≡ given =
     ap (λ ns. map given_place ns)
     (filter_before (λ n. n.scn == suc c.scn) c.renumbered (map (given_row (suc c.scn)) given)
-    (each_weaker (λ n. n.scn ≤ c.scn) (λ n. (n.scn == suc c.scn) ≡ false) (λ n low. eq_under n.scn (suc c.scn) (omega arith)) c.renumbered known.given)
+    (each_weaker (λ n. n.scn ≤ c.scn) (λ n. (n.scn == suc c.scn) ≡ false) (λ n low. below_differs n.scn (suc c.scn) (omega arith)) c.renumbered known.given)
     ∙ filter_whole (λ n. n.scn == suc c.scn) (map (given_row (suc c.scn)) given)
     (each_made (λ n. (n.scn == suc c.scn) ≡ true) (given_row (suc c.scn)) (λ p. eq-eqb (suc c.scn) (suc c.scn) refl) given))
     ∙ map_given (suc c.scn) given in
@@ -146,7 +135,7 @@ no_and a b h = ap (λ a. a && b) h
 ended_old : (c : Catalog) (base : Base) (news : List TableChange) (given : List (ℕ × ℕ)) → Each (IsPast c) c.past → c.oldest ≤ c.scn → (v : ℕ × (ℕ × ℕ)) → ended_by (grown c base news given) c.oldest v ≡ ended_by c c.oldest v
 ended_old c base news given bounded low v =
     let g : Catalog = grown c base news given in
-    let later : within v.0 c.oldest (suc c.scn) ≡ false = and_false (nat_lt v.0 (suc c.scn)) (nat_le (suc c.scn) c.oldest) (le_false (suc c.scn) c.oldest (omega arith)) in
+    let later : within v.0 c.oldest (suc c.scn) ≡ false = and_right (nat_lt v.0 (suc c.scn)) (nat_le (suc c.scn) c.oldest) (lt-leb (suc c.scn) c.oldest (omega arith)) in
     ap (λ b. b || list_any (ends g c.oldest v) c.past) (no_and (within v.0 c.oldest (suc c.scn)) (is_among (changed_at g (suc c.scn)) v.1 || not (is_live base v.1)) later)
     ∙ any_as (ends g c.oldest v) (ends c c.oldest v) c.past
     (each_weaker (IsPast c) (λ p. ends g c.oldest v p ≡ ends c c.oldest v p)
@@ -215,18 +204,10 @@ module _ {A : Type 0} (same : A → A → Bool) (p : A → Bool) (alike : (x y :
           ap (λ b. cond b (x ∷ filter p (distinct_after same (x ∷ seen) xs)) (filter p (distinct_after same (x ∷ seen) xs))) is
           ∙ k ∙ ap (λ b. distinct_after same (cond b (x ∷ filter p seen) (filter p seen)) (filter p xs)) is
 
-and_left : (a b : Bool) → (a && b) ≡ true → a ≡ true
-and_left true b e = refl
-and_left false b e = absurd (cc)
-
-and_right : (a b : Bool) → (a && b) ≡ true → b ≡ true
-and_right true b e = e
-and_right false b e = absurd (cc)
-
 live_alike : (base : Base) (a b : ℕ × ℕ) → same_place a b ≡ true → is_live base a ≡ is_live base b
 live_alike base a b e =
-    ap (λ n. is_live base (n, a.1)) (eqb-true a.0 b.0 (and_left (a.0 == b.0) (a.1 == b.1) e))
-    ∙ ap (λ n. is_live base (b.0, n)) (eqb-true a.1 b.1 (and_right (a.0 == b.0) (a.1 == b.1) e))
+    ap (λ n. is_live base (n, a.1)) (eqb-true a.0 b.0 (and_parts (a.0 == b.0) (a.1 == b.1) e).0)
+    ∙ ap (λ n. is_live base (b.0, n)) (eqb-true a.1 b.1 (and_parts (a.0 == b.0) (a.1 == b.1) e).1)
 
 -- a row that was deleted is gone
 abbrev IsGone : Base → TableChange → Type 0
@@ -291,7 +272,7 @@ gone_step t m rows c (Comes vs fits none is) e = absurd (some_none vs (sym (ap (
 gone_step t m rows c (Turns r vs has fits is) e = absurd (some_none vs (sym (ap (λ (c : Change). c.new) is) ∙ e))
 gone_step t m rows c (Goes r has is) e =
     subst (λ c. IsAwayBy (m + weight c) (rows_after rows c) c.rowid) (sym is)
-    (each_weaker (λ q. not (q.rowid == r.rowid) ≡ true) (IsAbsent r.rowid) (λ q e. not_true (q.rowid == r.rowid) e) (rows_after rows (deleted_change r)) (each_passed (λ q. not (q.rowid == r.rowid)) rows), omega (arith, has.given))
+    (each_weaker (λ q. not (q.rowid == r.rowid) ≡ true) (IsAbsent r.rowid) (λ q e. not-true (q.rowid == r.rowid) e) (rows_after rows (deleted_change r)) (Each-passes (λ q. not (q.rowid == r.rowid)) rows), omega (arith, has.given))
 
 -- and after all that follows
 all_gone : (t : Table) (m : ℕ) (rows : List Row) (cs : List Change) → Steps t m rows cs → Each (λ c. c.new ≡ None → IsAwayBy (m + count_by is_insert cs) (fold rows_after rows cs) c.rowid) cs

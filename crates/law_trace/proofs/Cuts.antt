@@ -1,8 +1,11 @@
 -- ALTER TABLE leaves the rows of a table whose keys aren't in the partition that it touches.
 use Rattle.std.proofs.Common.{◌||◌, ◌≡◌, ◌∙◌, sym, ap, refl, subst, ℕ, suc, ◌+◌, Bool, true, false, true≢false, cond, not, List, [], ◌∷◌, ◌++◌, map, Option, None, Some, ◌==◌}
+use Rattle.law_lists.proofs.Options.{find_passes}
+use Rattle.law_lists.proofs.Each.{Each-passes}
+use Rattle.std.proofs.lemmas.Option.{same_Some}
 use Rattle.std.specs.List.{enumerate_from, filter, find}
 use Rattle.std.specs.Prelude.{Ok, is_some, option_map}
-use Rattle.std.proofs.lemmas.Bool.{eq-eqb, eqb-true}
+use Rattle.std.proofs.lemmas.Bool.{eq-eqb, eqb-true, false_from_ne_true, not-false, or_parts}
 use Rattle.std.proofs.lemmas.List.{append-nil, append_assoc}
 use Rattle.wh_base.specs.Lists.{has_number, option_case, same_text}
 use Rattle.wh_base.specs.Tables.{Base, Row, Table, mark_of, part_intervals, part_of_key, value_at, with_intervals}
@@ -17,10 +20,9 @@ use Rattle.law_trace.proofs.Basing.{ByAdd, ByDrop, ByMovement, ByRegroup, ByTrun
 use Rattle.law_trace.proofs.Bordering.{AreNumbered, IsOther, PartsRight, spans_of}
 use Rattle.law_trace.proofs.Regrouping.{Spans, any_below, numbers, top_of}
 use Rattle.law_trace.proofs.Fitting.{AllFit}
-use Rattle.law_trace.proofs.Listed.{Each, Pairs, each_filter, each_found, each_left, each_right, each_two, each_weaker, or_first, or_second, some_same}
+use Rattle.law_trace.proofs.Listed.{Each, Pairs, each_filter, each_found, each_left, each_right, each_two, each_weaker}
 use Rattle.law_trace.specs.Rows.{Fits}
-use Rattle.law_trace.proofs.Tested.{was_true, found_passes}
-use Rattle.law_trace.proofs.Blocks.{IsOutside, never_true}
+use Rattle.law_trace.proofs.Blocks.{IsOutside}
 use Rattle.law_trace.proofs.Marks.{IsGone, IsPlaced, first_below, found_part, is_below, is_over, kept, kept_alike, kept_fewer, kept_more, kept_of, over_next, marked, number_is, part_fewer, part_for, part_more, placed_of, says, stays}
 
 -- ---- two of one number are one
@@ -30,13 +32,13 @@ one_of num p r [] x y h e f same = absurd (cc)
 one_of {A} num p r (z ∷ xs) x y h e f same = by (p z) (r z) e f (one_of num p r xs x y h.1)
   where
     by : (b c : Bool) → cond b (Some z) (find p xs) ≡ Some x → cond c (Some z) (find r xs) ≡ Some y → (find p xs ≡ Some x → find r xs ≡ Some y → num x ≡ num y → x ≡ y) → x ≡ y
-    by true true g k rest = sym (some_same z x g) ∙ some_same z y k
+    by true true g k rest = sym (same_Some z x g) ∙ same_Some z y k
     by true false g k rest =
-        let first : num z ≡ num x = ap num (some_same z x g) in
+        let first : num z ≡ num x = ap num (same_Some z x g) in
         let other : (num z == num y) ≡ false = each_found (λ a. (num z == num a) ≡ false) r xs y h.0 k in
         absurd (true≢false (sym (eq-eqb (num z) (num y) (first ∙ same)) ∙ other))
     by false true g k rest =
-        let first : num z ≡ num y = ap num (some_same z y k) in
+        let first : num z ≡ num y = ap num (same_Some z y k) in
         let other : (num z == num x) ≡ false = each_found (λ a. (num z == num a) ≡ false) p xs x h.0 g in
         absurd (true≢false (sym (eq-eqb (num z) (num x) (first ∙ sym same)) ∙ other))
     by false false g k rest = rest g k same
@@ -63,12 +65,12 @@ cut_gone out t name p vs numbered named outside mark = by t.def.part_key refl
         let same : q ≡ p =
         one_of (λ (r : Part × Interval). r.0.number) (λ r. interval_has r.1 (value_at vs k)) (λ r. same_text r.0.name name) (part_intervals t) q p
         (intervals_rise None t.parts numbered.0) found named (sym number ∙ mark) in
-        let has : interval_has p.1 (value_at vs k) ≡ true = subst (λ (r : Part × Interval). interval_has r.1 (value_at vs k) ≡ true) same (found_passes (λ r. interval_has r.1 (value_at vs k)) (part_intervals t) q found) in
+        let has : interval_has p.1 (value_at vs k) ≡ true = subst (λ (r : Part × Interval). interval_has r.1 (value_at vs k) ≡ true) same (find_passes (λ r. interval_has r.1 (value_at vs k)) (part_intervals t) q found) in
         true≢false (sym has ∙ outside (value_at vs k) (subst (λ (r : Part × Interval). out r.0.number (value_at vs k) ≡ true) same e))
 
     by_part : (k : ℕ) → t.def.part_key ≡ Some k → (o : Option (Part × Interval)) → part_of_key t (value_at vs k) ≡ o → says out (value_at vs k) (option_map (λ r. r.0) o) ≡ false
     by_part k is None found = refl
-    by_part k is (Some q) found = never_true (out q.0.number (value_at vs k)) (no_key k is q found)
+    by_part k is (Some q) found = false_from_ne_true (out q.0.number (value_at vs k)) (no_key k is q found)
 
     by : (o : Option ℕ) → t.def.part_key ≡ o → option_case o false (λ k. says out (value_at vs k) (part_for t.parts (value_at vs k))) ≡ false
     by None is = refl
@@ -82,7 +84,7 @@ fewer_kept out t name p numbered named outside =
     all : (rows : List Row) → Each (λ r. not (mark_of t r.values == p.0.number) ≡ false → IsGone out t.def.part_key t.parts r.values) rows
     all [] = tt
     all (r ∷ rows) = (
-      λ e. cut_gone out t name p r.values numbered named outside (eqb-true (mark_of t r.values) p.0.number (was_true (mark_of t r.values == p.0.number) e)),
+      λ e. cut_gone out t name p r.values numbered named outside (eqb-true (mark_of t r.values) p.0.number (not-false (mark_of t r.values == p.0.number) e)),
       all rows,
     )
 
@@ -126,15 +128,6 @@ alike_dropped out t n r placed other =
     let apart : not (p.0.number == n) ≡ true = ap (λ m. not (m == n)) (sym number) ∙ other in
     part_fewer (λ q. not (q.number == n)) t.parts (value_at r.values k) p.0 p.1 apart ∙ sym p.1)
 
--- what is left passed the test
-each_passed : {A : Type 0} (p : A → Bool) (xs : List A) → Each (λ x. p x ≡ true) (filter p xs)
-each_passed p [] = tt
-each_passed p (x ∷ xs) = by (p x) refl (each_passed p xs)
-  where
-    by : (b : Bool) → p x ≡ b → Each (λ x. p x ≡ true) (filter p xs) → Each (λ x. p x ≡ true) (cond b (x ∷ filter p xs) (filter p xs))
-    by true is h = (is, h)
-    by false is h = h
-
 all_placed : (t : Table) → AllFit t → Each (IsPlaced t.def.part_key t.parts) t.rows
 all_placed t fits = each_weaker (λ r. Fits t r.values) (IsPlaced t.def.part_key t.parts) (λ r h. placed_of t r h.placed) t.rows fits
 
@@ -159,7 +152,7 @@ part_behind (p ∷ front) rest key e = by (is_below key p) e (part_behind front 
 -- below none of these the key is over the last bound
 over_top : (lo : Option Value) (front : List Part) (key : Value) → is_over key lo ≡ true → any_below key front ≡ false → is_over key (top_of lo front) ≡ true
 over_top lo [] key over e = over
-over_top lo (p ∷ front) key over e = over_top p.below front key (over_next key p (or_first (is_below key p) (any_below key front) e)) (or_second (is_below key p) (any_below key front) e)
+over_top lo (p ∷ front) key over e = over_top p.below front key (over_next key p (or_parts (is_below key p) (any_below key front) e).0) (or_parts (is_below key p) (any_below key front) e).1
 
 -- a key of one of these partitions, of which none holds what is asked for, isn't asked for
 none_said : (out : ℕ → Value → Bool) (lo : Option Value) (ps : List Part) (key : Value) → is_over key lo ≡ true → Each (λ p. IsOutside out p.0.number p.1) (with_intervals lo ps) → says out key (part_for ps key) ≡ false
@@ -168,8 +161,8 @@ none_said out lo ps key over outside = ap (says out key) (sym (first_below key l
     by : (o : Option (Part × Interval)) → find (λ (p : Part × Interval). interval_has p.1 key) (with_intervals lo ps) ≡ o → says out key (option_map (λ p. p.0) o) ≡ false
     by None is = refl
     by (Some p) is =
-        never_true (out p.0.number key)
-        (λ e. true≢false (sym (found_passes (λ (p : Part × Interval). interval_has p.1 key) (with_intervals lo ps) p is) ∙ each_found (λ p. IsOutside out p.0.number p.1) (λ (p : Part × Interval). interval_has p.1 key) (with_intervals lo ps) p outside is key e))
+        false_from_ne_true (out p.0.number key)
+        (λ e. true≢false (sym (find_passes (λ (p : Part × Interval). interval_has p.1 key) (with_intervals lo ps) p is) ∙ each_found (λ p. IsOutside out p.0.number p.1) (λ (p : Part × Interval). interval_has p.1 key) (with_intervals lo ps) p outside is key e))
 
 -- which of the three the key stands in
 data Where (front mid : List Part) (key : Value) : Type 0 where
@@ -266,9 +259,9 @@ module _ (out : ℕ → Value → Bool) (t : Table) (before after : List (Part �
       ∙ joined stay (moved_rows t ended) (gone_all (suc t.given) (filter (is_row_of ended t) t.rows) goes)
       ∙ kept_alike out t.def.part_key new_parts t.parts stay
       (each_weaker (λ r. IsPlaced t.def.part_key t.parts r × (not (is_row_of ended t r) ≡ true)) (IsAlike out t.def.part_key new_parts t.parts) (λ r both. row_stays r both.0 both.1) stay
-      (each_two (IsPlaced t.def.part_key t.parts) (λ r. not (is_row_of ended t r) ≡ true) stay (each_filter (IsPlaced t.def.part_key t.parts) (λ r. not (is_row_of ended t r)) t.rows placed) (each_passed (λ r. not (is_row_of ended t r)) t.rows)))
+      (each_two (IsPlaced t.def.part_key t.parts) (λ r. not (is_row_of ended t r) ≡ true) stay (each_filter (IsPlaced t.def.part_key t.parts) (λ r. not (is_row_of ended t r)) t.rows placed) (Each-passes (λ r. not (is_row_of ended t r)) t.rows)))
       ∙ kept_fewer out t.def.part_key t.parts (λ r. not (is_row_of ended t r)) t.rows
-      (each_weaker (IsPlaced t.def.part_key t.parts) (λ r. not (is_row_of ended t r) ≡ false → IsGone out t.def.part_key t.parts r.values) (λ r h e. (row_goes r h (was_true (is_row_of ended t r) e)).0) t.rows placed)
+      (each_weaker (IsPlaced t.def.part_key t.parts) (λ r. not (is_row_of ended t r) ≡ false → IsGone out t.def.part_key t.parts r.values) (λ r h e. (row_goes r h (not-false (is_row_of ended t r) e)).0) t.rows placed)
     where
       stay : List Row
       stay = filter (λ r. not (is_row_of ended t r)) t.rows
@@ -282,7 +275,7 @@ module _ (out : ℕ → Value → Bool) (t : Table) (before after : List (Part �
       goes : Each (λ r. IsGone out t.def.part_key new_parts r.values) (filter (is_row_of ended t) t.rows)
       goes =
           each_weaker (λ r. IsPlaced t.def.part_key t.parts r × (is_row_of ended t r ≡ true)) (λ r. IsGone out t.def.part_key new_parts r.values) (λ r both. (row_goes r both.0 both.1).1) (filter (is_row_of ended t) t.rows)
-          (each_two (IsPlaced t.def.part_key t.parts) (λ r. is_row_of ended t r ≡ true) (filter (is_row_of ended t) t.rows) (each_filter (IsPlaced t.def.part_key t.parts) (is_row_of ended t) t.rows placed) (each_passed (is_row_of ended t) t.rows))
+          (each_two (IsPlaced t.def.part_key t.parts) (λ r. is_row_of ended t r ≡ true) (filter (is_row_of ended t) t.rows) (each_filter (IsPlaced t.def.part_key t.parts) (is_row_of ended t) t.rows placed) (Each-passes (is_row_of ended t) t.rows))
 
       gone_all : (m : ℕ) (rs : List Row) → Each (λ r. IsGone out t.def.part_key new_parts r.values) rs → Each (λ (r : Row). IsGone out t.def.part_key new_parts r.values) (map (λ p. record { rowid = p.0; values = p.1.values }) (enumerate_from m rs))
       gone_all m [] h = tt
@@ -318,7 +311,7 @@ drop_same t name p named =
           (λ r both. alike_dropped out t p.0.number r both.0 both.1) (without_rows t p.0)
           (each_two (IsPlaced t.def.part_key t.parts) (λ r. not (mark_of t r.values == p.0.number) ≡ true) (without_rows t p.0)
           (each_filter (IsPlaced t.def.part_key t.parts) (λ r. not (mark_of t r.values == p.0.number)) t.rows (all_placed t fits))
-          (each_passed (λ r. not (mark_of t r.values == p.0.number)) t.rows)))
+          (Each-passes (λ r. not (mark_of t r.values == p.0.number)) t.rows)))
           ∙ fewer_kept out t name p right.0 named outside.0;
     }
 

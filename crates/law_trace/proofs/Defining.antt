@@ -1,8 +1,9 @@
 -- The definitions of tables are right: what they name is there.
-use Rattle.std.proofs.Common.{◌≡◌, ◌≢◌, ◌∙◌, sym, ap, refl, subst, arith, ℕ, zero, suc, ◌+◌, ◌<◌, Bool, true, false, cond, not, List, [], ◌∷◌, ◌++◌, length, map, Option, None, Some, nat_le, nat_lt, ◌&&◌, true≢false}
+use Rattle.std.proofs.Common.{◌≡◌, ◌≢◌, ◌∙◌, sym, ap, refl, subst, arith, ℕ, zero, suc, ◌+◌, ◌<◌, Bool, true, false, cond, not, List, [], ◌∷◌, ◌++◌, length, map, Option, None, Some, nat_le, nat_lt, true≢false}
+use Rattle.std.proofs.lemmas.Option.{same_Some}
 use Rattle.std.specs.List.{All, cons_option, find, position, position_or_len}
 use Rattle.std.specs.Prelude.{filter_map, is_none, is_some, option_and_then, option_map, slice_get, unwrap_or}
-use Rattle.std.proofs.lemmas.Bool.{lt-ltb, ltb-true}
+use Rattle.std.proofs.lemmas.Bool.{and_parts, lt-ltb, not-false}
 use Rattle.std.proofs.lemmas.List.{length-append, length-map, map-append}
 use Rattle.std.proofs.lemmas.Slice.Eq.{bytes_eq-Decides}
 use Rattle.wh_base.specs.Lists.{first_of, has_text, option_case, same_text, where_true}
@@ -26,24 +27,15 @@ use Rattle.def_resolve.specs.Earlier.{first_after, first_in_turn}
 use Rattle.def_resolve.specs.Kinds.{Sort, agrees, part_sort}
 use Rattle.wh_base.specs.declared.columns.ColPart.TheVariants.{Col}
 use Rattle.law_trace.proofs.Basing.{KeepsBase, base_holds, made_of, none_each, none_first, none_rest, none_where}
-use Rattle.law_trace.proofs.Listed.{Each, Pairs, all_from, each_append, each_every, each_left, each_right, each_two, each_unmap, each_weaker, pairs_from, some_same}
+use Rattle.law_trace.proofs.Listed.{Each, Pairs, all_from, each_append, each_every, each_left, each_right, each_two, each_unmap, each_weaker, pairs_from}
 use Rattle.law_trace.proofs.Outcomes.{ok_holds}
 use Rattle.law_trace.proofs.Parenting.{find_none}
-use Rattle.law_trace.proofs.Stepping.{HasDef, part_keeps}
+use Rattle.law_trace.proofs.Stepping.{HasDef, part_keeps, within_places}
 use Rattle.law_trace.proofs.Tabling.{with_table_defs, with_table_still}
 use Rattle.law_trace.specs.Reached.{catalog_of, still}
 use Rattle.law_trace.specs.Rows.{IsDefined}
 
 -- ---- places
-
-pub placed_within : {A : Type 0} (p : A → Bool) (xs : List A) (i : ℕ) → position p xs ≡ Some i → i < length xs
-placed_within p xs i e = by (nat_lt (position_or_len p xs) (length xs)) refl e
-  where
-    by : (b : Bool) → nat_lt (position_or_len p xs) (length xs) ≡ b → cond b (Some (position_or_len p xs)) None ≡ Some i → i < length xs
-    by true is e =
-        let same : position_or_len p xs ≡ i = some_same (position_or_len p xs) i e in
-        subst (λ n. n < length xs) same (ltb-true (position_or_len p xs) (length xs) is)
-    by false is e = absurd (cc)
 
 one_more : (n : ℕ) → 1 + n ≡ suc n
 one_more n = omega arith
@@ -64,7 +56,7 @@ found_place p (x ∷ xs) e = by (p x) e (found_place p xs)
 pub found_position : {A : Type 0} (p : A → Bool) (xs : List A) → is_none (find p xs) ≡ false → position p xs ≡ Some (position_or_len p xs)
 found_position p xs e = ap (λ b. cond b (Some (position_or_len p xs)) None) (lt-ltb (position_or_len p xs) (length xs) (found_place p xs e).0)
 
-each_given : {A B : Type 0} (P : A → Type 0) (Q : B → Type 0) (f : A → Option B) → ((x : A) (y : B) → P x → f x ≡ Some y → Q y) → (xs : List A) → Each P xs → Each Q (filter_map f xs)
+pub each_given : {A B : Type 0} (P : A → Type 0) (Q : B → Type 0) (f : A → Option B) → ((x : A) (y : B) → P x → f x ≡ Some y → Q y) → (xs : List A) → Each P xs → Each Q (filter_map f xs)
 each_given P Q f k [] h = tt
 each_given {B = B} P Q f k (x ∷ xs) h = by (f x) refl (each_given P Q f k xs h.1)
   where
@@ -145,7 +137,7 @@ all_apart s (x ∷ xs) h = (made_apart s x xs h.0, all_apart s xs h.1)
 new_within : (s : NewTable) (name : List ℕ) (k : ℕ) → new_place s name ≡ Some k → k < length (map (new_column s) (new_columns s))
 new_within s name k e =
     let many : length (map (new_column s) (new_columns s)) ≡ length (new_columns s) = length-map (new_columns s) (new_column s) in
-    let low : k < length (new_columns s) = placed_within (λ c. same_text c.name name) (new_columns s) k e in
+    let low : k < length (new_columns s) = within_places (λ c. same_text c.name name) (new_columns s) k e in
     omega arith
 
 new_there : (s : NewTable) (name : List ℕ) → is_no_column (new_columns s) name ≡ false → unwrap_or (new_place s name) 0 < length (map (new_column s) (new_columns s))
@@ -160,17 +152,9 @@ RefersTo defs f = (f.table < length defs) × (is_key (def_at defs f.table) f.to 
 abbrev Foreign : List TableDef → NewTable → ForeignDef → Type 0
 Foreign defs s f = (f.column < length (map (new_column s) (new_columns s))) × RefersTo defs f
 
-and_left : (a b : Bool) → (a && b) ≡ true → a ≡ true
-and_left true b e = refl
-and_left false b e = absurd (cc)
-
-not_not : (b : Bool) → not b ≡ false → b ≡ true
-not_not true e = refl
-not_not false e = absurd (true≢false e)
-
 none_case : {A : Type 0} (o : Option A) (test : A → Bool) (x : A) → o ≡ Some x → option_case o false test ≡ true → test x ≡ true
 none_case None test x e h = absurd (cc)
-none_case (Some y) test x e h = subst (λ z. test z ≡ true) (some_same y x e) h
+none_case (Some y) test x e h = subst (λ z. test z ≡ true) (same_Some y x e) h
 
 abbrev has_name : List ℕ → TableDef → Bool
 has_name name d = same_text d.name name
@@ -178,7 +162,7 @@ has_name name d = same_text d.name name
 -- the table that is found has the number that is found
 numbered_found : (defs : List TableDef) (name : List ℕ) (n : ℕ) → table_number defs name ≡ Some n → is_none (find (has_name name) defs) ≡ false → find (has_name name) defs ≡ Some (def_at defs n)
 numbered_found defs name n is found =
-    let same : position_or_len (has_name name) defs ≡ n = some_same _ n (sym (found_position (has_name name) defs found) ∙ is) in
+    let same : position_or_len (has_name name) defs ≡ n = same_Some _ n (sym (found_position (has_name name) defs found) ∙ is) in
     let at : slice_get defs n ≡ find (has_name name) defs = subst (λ k. slice_get defs k ≡ find (has_name name) defs) same (found_place (has_name name) defs found).1 in
     by (find (has_name name) defs) refl found at
   where
@@ -208,7 +192,7 @@ meets defs s f none =
     record {
       column = none_where (is_no_column (new_columns s) f.column) (NoSuchColumn f.column) (none_first column (parent ∷ key ∷ []) none);
       parent = none_where (is_none (parent_def defs f.reference)) (NoSuchObject f.reference.table) (none_first parent (key ∷ []) second);
-      key = not_not (option_case (parent_def defs f.reference) false (key_of s f))
+      key = not-false (option_case (parent_def defs f.reference) false (key_of s f))
           (none_where (not (option_case (parent_def defs f.reference) false (key_of s f))) (NotAKey s.name f.column) (none_first key [] third));
     }
 
@@ -216,13 +200,13 @@ foreign_at : (defs : List TableDef) (s : NewTable) (f : NewForeign) (g : Foreign
     → (o : Option ℕ) → referred (def_at defs n) f.reference ≡ o → option_map (foreign_made s f n) o ≡ Some g → Foreign defs s g
 foreign_at defs s f g n h is None refers made = absurd (cc)
 foreign_at defs s f g n h is (Some to) refers made =
-    let same : foreign_made s f n to ≡ g = some_same (foreign_made s f n to) g made in
+    let same : foreign_made s f n to ≡ g = same_Some (foreign_made s f n to) g made in
     let parent : key_of s f (def_at defs n) ≡ true =
     none_case (find (has_name f.reference.table) defs) (key_of s f) (def_at defs n) (numbered_found defs f.reference.table n is h.parent) h.key in
     let sort : Sort = new_column_sort (new_columns s) f.column in
     let key : is_key_of_sort (def_at defs n) to sort ≡ true = none_case (referred (def_at defs n) f.reference) (λ c. is_key_of_sort (def_at defs n) c sort) to refers parent in
     subst (Foreign defs s) same
-    (new_there s f.column h.column, (placed_within (has_name f.reference.table) defs n is, and_left (is_key (def_at defs n) to) (agrees (part_sort (def_at defs n) (Col to)) sort) key))
+    (new_there s f.column h.column, (within_places (has_name f.reference.table) defs n is, (and_parts (is_key (def_at defs n) to) (agrees (part_sort (def_at defs n) (Col to)) sort) key).0))
 
 foreign_holds : (defs : List TableDef) (s : NewTable) (f : NewForeign) (g : ForeignDef) → foreign_refusal defs s.name (new_columns s) f ≡ None → foreign_def defs s f ≡ Some g → Foreign defs s g
 foreign_holds defs s f g none made = by (table_number defs f.reference.table) refl made

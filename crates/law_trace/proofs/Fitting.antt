@@ -1,5 +1,9 @@
 -- Each row fits its table, and no table has too many.
 use Rattle.std.proofs.Common.{◌≡◌, ◌∙◌, sym, ap, refl, subst, arith, ℕ, suc, ◌+◌, ◌≤◌, Bool, true, false, cond, not, List, [], ◌∷◌, ◌++◌, length, map, Option, None, Some, ◌==◌, ◌&&◌, ◌||◌, true≢false}
+use Rattle.law_lists.proofs.Each.{Each-passes}
+use Rattle.std.proofs.lemmas.Option.{same_Some}
+use Rattle.std.proofs.Math.Bool.{and-false}
+use Rattle.std.proofs.lemmas.Bool.{and_from, and_parts, not-true, or_right}
 use Rattle.std.specs.List.{enumerate_from, filter, find, list_any}
 use Rattle.std.specs.Ordering.{is_ge, is_lt}
 use Rattle.std.specs.Prelude.{count_by, is_none, option_map}
@@ -20,7 +24,7 @@ use Rattle.def_effect.specs.Partitions.{added, added_part, dropped, is_row_of, m
 use Rattle.def_history.specs.Catalog.{base_now}
 use Rattle.law_trace.proofs.Basing.{KeepsTable, Regroups, asked_changes, each_table, made, made_of}
 use Rattle.law_trace.proofs.Finishing.{finished}
-use Rattle.law_trace.proofs.Listed.{Each, each_append, each_filter, each_two, each_weaker, some_same}
+use Rattle.law_trace.proofs.Listed.{Each, each_append, each_filter, each_two, each_weaker}
 use Rattle.law_trace.proofs.Bordering.{PartsRight, keep_parts, spans_of}
 use Rattle.law_trace.proofs.Marks.{found_part}
 use Rattle.law_trace.proofs.Marks.{is_below as is_below_part}
@@ -64,13 +68,6 @@ over_next key (Some hi) e = by (value_cmp key hi) e
     by Equal e = refl
     by Greater e = refl
 
-both_true : (a b : Bool) → a ≡ true → b ≡ true → (a && b) ≡ true
-both_true a b h k = ap (λ a. a && b) h ∙ k
-
-and_none : (a : Bool) → (a && false) ≡ false
-and_none true = refl
-and_none false = refl
-
 -- a key below the bound of some partition has a partition
 below_found : (key : Value) (lo : Option Value) (parts : List Part) → is_over key lo ≡ true → list_any (λ p. is_below key p.below) parts ≡ true → is_found key lo parts
 below_found key lo [] over e = absurd (cc)
@@ -79,19 +76,11 @@ below_found key lo (p ∷ parts) over e = by (is_below key p.below) refl e (belo
     by : (b : Bool) → is_below key p.below ≡ b → (b || list_any (λ p. is_below key p.below) parts) ≡ true
         → (is_over key p.below ≡ true → list_any (λ p. is_below key p.below) parts ≡ true → is_found key p.below parts) → is_found key lo (p ∷ parts)
     by true is e later =
-        ap (λ b. is_none (cond b (Some (p, record { lo = lo; hi = p.below })) (find (Has key) (with_intervals p.below parts)))) (both_true (is_over key lo) (is_below key p.below) over is)
+        ap (λ b. is_none (cond b (Some (p, record { lo = lo; hi = p.below })) (find (Has key) (with_intervals p.below parts)))) (and_from (is_over key lo) (is_below key p.below) over is)
     by false is e later =
         ap (λ b. is_none (cond (is_over key lo && b) (Some (p, record { lo = lo; hi = p.below })) (find (Has key) (with_intervals p.below parts)))) is
-        ∙ ap (λ b. is_none (cond b (Some (p, record { lo = lo; hi = p.below })) (find (Has key) (with_intervals p.below parts)))) (and_none (is_over key lo))
+        ∙ ap (λ b. is_none (cond b (Some (p, record { lo = lo; hi = p.below })) (find (Has key) (with_intervals p.below parts)))) (and-false (is_over key lo))
         ∙ later (over_next key p.below is) e
-
-second_true : (a b : Bool) → (a && b) ≡ true → b ≡ true
-second_true true b e = e
-second_true false b e = absurd (cc)
-
-or_true : (a b : Bool) → b ≡ true → (a || b) ≡ true
-or_true true b e = refl
-or_true false b e = e
 
 -- the partitions but for those of one number
 abbrev others : ℕ → List Part → List Part
@@ -104,7 +93,7 @@ found_below key n lo [] q e other = absurd (cc)
 found_below key n lo (p ∷ parts) q e other = by (interval_has (record { lo = lo; hi = p.below }) key) refl e (found_below key n p.below parts q)
   where
     rest : (b : Bool) → list_any (λ p. is_below key p.below) (others n parts) ≡ true → list_any (λ p. is_below key p.below) (cond b (p ∷ others n parts) (others n parts)) ≡ true
-    rest true h = or_true (is_below key p.below) (list_any (λ p. is_below key p.below) (others n parts)) h
+    rest true h = or_right (is_below key p.below) (list_any (λ p. is_below key p.below) (others n parts)) h
     rest false h = h
 
     by : (b : Bool) → interval_has (record { lo = lo; hi = p.below }) key ≡ b
@@ -112,10 +101,10 @@ found_below key n lo (p ∷ parts) q e other = by (interval_has (record { lo = l
         → (find (Has key) (with_intervals p.below parts) ≡ Some q → (q.0.number == n) ≡ false → list_any (λ p. is_below key p.below) (others n parts) ≡ true)
         → list_any (λ p. is_below key p.below) (others n (p ∷ parts)) ≡ true
     by true is e later =
-        let same : (p, record { lo = lo; hi = p.below }) ≡ q = some_same (p, record { lo = lo; hi = p.below }) q e in
+        let same : (p, record { lo = lo; hi = p.below }) ≡ q = same_Some (p, record { lo = lo; hi = p.below }) q e in
         let apart : (p.number == n) ≡ false = ap (λ (q : Part × Interval). q.0.number == n) same ∙ other in
         ap (λ b. list_any (λ p. is_below key p.below) (cond (not b) (p ∷ others n parts) (others n parts))) apart
-        ∙ ap (λ b. b || list_any (λ p. is_below key p.below) (others n parts)) (second_true (is_over key lo) (is_below key p.below) is)
+        ∙ ap (λ b. b || list_any (λ p. is_below key p.below) (others n parts)) (and_parts (is_over key lo) (is_below key p.below) is).1
     by false is e later = rest (not (p.number == n)) (later e other)
 
 -- ---- a row after a partition came or went
@@ -138,10 +127,6 @@ fits_added t r vs h =
 abbrev IsOutside : Table → ℕ → Row → Type 0
 IsOutside t n r = not (mark_of t r.values == n) ≡ true
 
-pub not_true : (b : Bool) → not b ≡ true → b ≡ false
-not_true true e = absurd (cc)
-not_true false e = refl
-
 left_placed : (t : Table) (n : ℕ) (o : Option Value) → option_case o false (λ key. is_none (part_of_key t key)) ≡ false
     → not (option_case o 0 (λ key. option_case (part_of_key t key) 0 (λ p. p.0.number)) == n) ≡ true
     → option_case o false (λ key. is_none (find (Has key) (with_intervals None (others n t.parts)))) ≡ false
@@ -151,7 +136,7 @@ left_placed t n (Some key) e outside = by (part_of_key t key) refl e outside
     by : (o : Option (Part × Interval)) → part_of_key t key ≡ o → is_none o ≡ false → not (option_case o 0 (λ p. p.0.number) == n) ≡ true
         → is_none (find (Has key) (with_intervals None (others n t.parts))) ≡ false
     by None is e outside = absurd (true≢false e)
-    by (Some q) is e outside = below_found key None (others n t.parts) refl (found_below key n None t.parts q is (not_true (q.0.number == n) outside))
+    by (Some q) is e outside = below_found key None (others n t.parts) refl (found_below key n None t.parts q is (not-true (q.0.number == n) outside))
 
 fits_dropped : (t : Table) (p : Part × Interval) (r : Row) → Fits t r.values → IsOutside t p.0.number r → Fits (dropped t p).table r.values
 fits_dropped t p r h outside =
@@ -159,15 +144,6 @@ fits_dropped t p r h outside =
 
 fits_truncated : (t : Table) (p : Part × Interval) (vs : List Value) → Fits t vs → Fits (truncated t p).table vs
 fits_truncated t p vs h = record { width = h.width; columns = h.columns; placed = h.placed }
-
--- what is left passed the test
-pub each_passed : {A : Type 0} (p : A → Bool) (xs : List A) → Each (λ x. p x ≡ true) (filter p xs)
-each_passed p [] = tt
-each_passed p (x ∷ xs) = by (p x) refl (each_passed p xs)
-  where
-    by : (b : Bool) → p x ≡ b → Each (λ x. p x ≡ true) (filter p xs) → Each (λ x. p x ≡ true) (cond b (x ∷ filter p xs) (filter p xs))
-    by true is h = (is, h)
-    by false is h = h
 
 -- ---- a table
 
@@ -256,7 +232,7 @@ keep_right =
             fewer_rise t (λ r. not (mark_of t r.values == p.0.number)) h.0.0,
             each_weaker (λ q. Fits t q.values × IsOutside t p.0.number q) (λ q. Fits (dropped t p).table q.values) (λ q both. fits_dropped t p q both.0 both.1) (without_rows t p.0)
                 (each_two (λ q. Fits t q.values) (IsOutside t p.0.number) (without_rows t p.0) (each_filter (λ q. Fits t q.values) (λ r. not (mark_of t r.values == p.0.number)) t.rows h.0.1)
-                (each_passed (λ q. not (mark_of t q.values == p.0.number)) t.rows)),
+                (Each-passes (λ q. not (mark_of t q.values == p.0.number)) t.rows)),
           ),
           keep_parts.cut.drops base n t p none h.1,
         );

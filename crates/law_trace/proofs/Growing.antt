@@ -1,5 +1,6 @@
 -- The past of the base state, the changes and the touches grow at their new ends, by SCNs above that of before.
 use Rattle.std.proofs.Common.{◌≡◌, ◌∙◌, sym, ap, refl, subst, arith, ℕ, suc, ◌<◌, ◌≤◌, true, false, cond, List, [], ◌∷◌, ◌++◌, map, Some, nat_le, nat_lt, ◌==◌, ◌&&◌}
+use Rattle.std.proofs.lemmas.Bool.{and_right, le-leb, lt-leb}
 use Rattle.std.specs.List.{enumerate_from, filter, find, fold, list_any}
 use Rattle.std.proofs.lemmas.List.{append-nil, append_assoc}
 use Rattle.wh_base.specs.Lists.{option_case}
@@ -14,7 +15,7 @@ use Rattle.def_journal.specs.Journal.{state_after, state_of}
 use Rattle.def_journal.specs.State.{State, empty_state}
 use Rattle.def_journal.specs.Statements.{renumbered}
 use Rattle.law_trace.proofs.Due.{KeepsDue, dues_keep, installs_keep}
-use Rattle.law_trace.proofs.Listed.{Each, Pairs, all_from, and_false, each_append, each_every, each_flat, each_made, each_weaker, filter_behind, find_behind, le_false, le_true, pairs_append, pairs_from, pairs_level, pairs_push}
+use Rattle.law_trace.proofs.Listed.{Each, Pairs, all_from, each_append, each_every, each_flat, each_made, each_weaker, filter_behind, find_behind, pairs_append, pairs_from, pairs_level, pairs_push}
 use Rattle.law_trace.proofs.Moves.{Adds, Alters, Commits, Creates, Declares, Drops, Forgets, Installs, Logs, Move, Purges, Stays, Switches, Withdraws, installed}
 use Rattle.law_trace.proofs.Stepping.{moves}
 use Rattle.law_trace.proofs.Traces.{state_more}
@@ -223,10 +224,10 @@ base_stays c d g p low =
     ap (λ past. option_case (find (λ q. nat_le q.0 p) past) [] (λ q. q.1)) g.past
     ∙ ap (λ o. option_case o [] (λ q. q.1))
     (find_behind (λ q. nat_le q.0 p) g.newer c.past
-    (each_weaker (λ q. Between c.scn d.scn q.0) (λ q. nat_le q.0 p ≡ false) (λ q b. le_false q.0 p (omega (arith, b.0))) g.newer g.recent))
+    (each_weaker (λ q. Between c.scn d.scn q.0) (λ q. nat_le q.0 p ≡ false) (λ q b. lt-leb q.0 p (omega (arith, b.0))) g.newer g.recent))
 
 late : (c d : Catalog) (table from p scn k : ℕ) → p ≤ c.scn → Between c.scn d.scn scn → ((k == table) && within from p scn) ≡ false
-late c d table from p scn k low b = and_false (k == table) (within from p scn) (and_false (nat_lt from scn) (nat_le scn p) (le_false scn p (omega (arith, b.0))))
+late c d table from p scn k low b = and_right (k == table) (within from p scn) (and_right (nat_lt from scn) (nat_le scn p) (lt-leb scn p (omega (arith, b.0))))
 
 pub noted_stay : (c d : Catalog) → Grows c d → (table from p : ℕ) → p ≤ c.scn → noted_changes d table from p ≡ noted_changes c table from p
 noted_stay c d g table from p low =
@@ -271,7 +272,7 @@ newest_of d bounded (p ∷ older) is some =
     let low : p.0 ≤ d.scn = (subst (Each (λ p. p.0 ≤ d.scn)) is bounded).0 in
     let base : base_now d ≡ p.1 =
     ap (λ past. option_case (find (λ q. nat_le q.0 d.scn) past) [] (λ q. q.1)) is
-    ∙ ap (λ b. option_case (cond b (Some p) (find (λ q. nat_le q.0 d.scn) older)) [] (λ q. q.1)) (le_true p.0 d.scn low) in
+    ∙ ap (λ b. option_case (cond b (Some p) (find (λ q. nat_le q.0 d.scn) older)) [] (λ q. q.1)) (le-leb p.0 d.scn low) in
     (p.0, older, is ∙ ap (λ base. (p.0, base) ∷ older) (sym base))
 
 not_empty : (front : List (ℕ × Base)) (p : ℕ × Base) → front ++ p ∷ [] ≡ [] → ⊥

@@ -1,5 +1,6 @@
 -- What a session keeps was the catalog of a front of the trace.
 use Rattle.std.proofs.Common.{◌≡◌, ◌∙◌, sym, ap, refl, subst, ℕ, Bool, true, false, List, [], ◌∷◌, ◌++◌, Some}
+use Rattle.std.proofs.lemmas.Option.{none-some, same_Some}
 use Rattle.std.proofs.lemmas.Bool.{eqb-true}
 use Rattle.std.proofs.lemmas.List.{append_assoc}
 use Rattle.wh_base.specs.Parts.{entry_bearer}
@@ -7,7 +8,6 @@ use Rattle.wh_base.specs.declared.statements.Event.{Event}
 use Rattle.def_history.specs.Catalog.{Catalog}
 use Rattle.def_journal.specs.Journal.{state_after, state_of}
 use Rattle.def_journal.specs.State.{Begun, Session, State, session_of}
-use Rattle.law_trace.proofs.Listed.{none_not_some, some_same}
 use Rattle.law_trace.proofs.Moves.{Begins, Closes, Ends, Keeps, Opens, Turn, own}
 use Rattle.law_trace.proofs.Stepping.{moves}
 use Rattle.law_trace.proofs.Traces.{by_events, state_push}
@@ -46,9 +46,9 @@ own_begun trace e b y h (Begins r begins is) found =
       is = refl;
       session = refl;
       begins = begins;
-      kept = some_same b (begun_over (catalog_of trace) r.name) (sym found ∙ ap (λ (x : Session). x.begun) is);
+      kept = same_Some b (begun_over (catalog_of trace) r.name) (sym found ∙ ap (λ (x : Session). x.begun) is);
     }
-own_begun trace e b y h (Ends is) found = absurd (none_not_some b (sym (ap (λ (x : Session). x.begun) is) ∙ found))
+own_begun trace e b y h (Ends is) found = absurd (none-some b (sym (ap (λ (x : Session). x.begun) is) ∙ found))
 
 begun_more : (trace : List Event) (e : Event) → ((n : ℕ) (b : Begun) → (session_of (state_of trace) n).begun ≡ Some b → HasBegun trace n b)
     → (n : ℕ) (b : Begun) → (session_of (state_of (trace ++ e ∷ [])) n).begun ≡ Some b → HasBegun (trace ++ e ∷ []) n b
@@ -66,7 +66,7 @@ begun_more trace e h n b found = by (is_of n e) refl
     by false is = begun_longer trace e n b (h n b (sym (ap (λ (x : Session). x.begun) ((moves (state_of trace) e).others n is)) ∙ after))
 
 pub all_begun : (trace : List Event) (n : ℕ) (b : Begun) → (session_of (state_of trace) n).begun ≡ Some b → HasBegun trace n b
-all_begun = by_events (λ trace. (n : ℕ) (b : Begun) → (session_of (state_of trace) n).begun ≡ Some b → HasBegun trace n b) (λ n b found. absurd (none_not_some b found)) begun_more
+all_begun = by_events (λ trace. (n : ℕ) (b : Begun) → (session_of (state_of trace) n).begun ≡ Some b → HasBegun trace n b) (λ n b found. absurd (none-some b found)) begun_more
 
 -- ---- what is read
 
@@ -85,7 +85,7 @@ opened_longer trace e n image h =
 own_opened : (trace : List Event) (e : Event) (image : Catalog) (y : Session) → ((own (state_of trace) e).reading ≡ Some image → HasOpened trace (entry_bearer e.entry) image)
     → Turn (state_of trace) e y → y.reading ≡ Some image → HasOpened (trace ++ e ∷ []) (entry_bearer e.entry) image
 own_opened trace e image y h (Keeps reading begun) found = opened_longer trace e (entry_bearer e.entry) image (h (sym reading ∙ found))
-own_opened trace e image y h (Closes is) found = absurd (none_not_some image (sym (ap (λ (x : Session). x.reading) is) ∙ found))
+own_opened trace e image y h (Closes is) found = absurd (none-some image (sym (ap (λ (x : Session). x.reading) is) ∙ found))
 own_opened trace e image y h (Opens command is) found =
     record {
       front = trace;
@@ -94,7 +94,7 @@ own_opened trace e image y h (Opens command is) found =
       is = refl;
       session = refl;
       command = command;
-      kept = some_same image (catalog_of trace) (sym found ∙ ap (λ (x : Session). x.reading) is);
+      kept = same_Some image (catalog_of trace) (sym found ∙ ap (λ (x : Session). x.reading) is);
     }
 own_opened trace e image y h (Begins r begins is) found = opened_longer trace e (entry_bearer e.entry) image (h (sym (ap (λ (x : Session). x.reading) is) ∙ found))
 own_opened trace e image y h (Ends is) found = opened_longer trace e (entry_bearer e.entry) image (h (sym (ap (λ (x : Session). x.reading) is) ∙ found))
@@ -115,4 +115,4 @@ opened_more trace e h n image found = by (is_of n e) refl
     by false is = opened_longer trace e n image (h n image (sym (ap (λ (x : Session). x.reading) ((moves (state_of trace) e).others n is)) ∙ after))
 
 pub all_opened : (trace : List Event) (n : ℕ) (image : Catalog) → (session_of (state_of trace) n).reading ≡ Some image → HasOpened trace n image
-all_opened = by_events (λ trace. (n : ℕ) (image : Catalog) → (session_of (state_of trace) n).reading ≡ Some image → HasOpened trace n image) (λ n image found. absurd (none_not_some image found)) opened_more
+all_opened = by_events (λ trace. (n : ℕ) (image : Catalog) → (session_of (state_of trace) n).reading ≡ Some image → HasOpened trace n image) (λ n image found. absurd (none-some image found)) opened_more

@@ -1,5 +1,6 @@
 -- Keys hold: no two rows of a table have the same value in a key.
-use Rattle.std.proofs.Common.{◌≡◌, ◌∙◌, sym, ap, refl, subst, ℕ, suc, ◌+◌, not, ◌++◌, true≢false, Bool, true, false, cond, List, [], ◌∷◌, map, None, Some, ◌||◌}
+use Rattle.std.proofs.Common.{◌≡◌, ◌∙◌, sym, ap, refl, subst, ℕ, suc, ◌+◌, not, ◌++◌, true≢false, Bool, true, false, cond, List, [], ◌∷◌, map, None, Some}
+use Rattle.std.proofs.lemmas.Bool.{or_from, or_parts}
 use Rattle.std.specs.List.{enumerate_from, filter, list_any}
 use Rattle.std.proofs.lemmas.List.{map-append}
 use Rattle.std.proofs.lemmas.List.Elements.{filter-append}
@@ -17,7 +18,7 @@ use Rattle.def_history.specs.Catalog.{base_now}
 use Rattle.def_meaning.specs.Meaning.{not_null}
 use Rattle.wh_base.specs.declared.statements.Statement.{Statement}
 use Rattle.law_trace.proofs.Basing.{KeepsTable, Passes, each_table, made, made_of, none_each, none_first, none_map}
-use Rattle.law_trace.proofs.Listed.{Each, Pairs, each_every, each_two, each_weaker, or_first, or_second, pairs_append}
+use Rattle.law_trace.proofs.Listed.{Each, Pairs, each_every, each_two, each_weaker, pairs_append}
 use Rattle.law_trace.specs.Reached.{catalog_of}
 use Rattle.law_trace.specs.Rows.{IsUnique}
 
@@ -59,9 +60,6 @@ thin_pairs R q f p (x ∷ xs) h = by (p x) (thin_pairs R q f p xs)
 
 -- ---- nothing repeats where each item differs from those before it
 
-or_false : (a b : Bool) → a ≡ false → b ≡ false → (a || b) ≡ false
-or_false a b h k = ap (λ a. a || b) h ∙ k
-
 module _ {A : Type 0} (same : A → A → Bool) where
   -- the item differs from all that were seen
   abbrev IsUnseen : List A → A → Type 0
@@ -79,8 +77,8 @@ module _ {A : Type 0} (same : A → A → Bool) where
       by true is e later = absurd (cc)
       by false is e later =
           let h : Each (IsUnseen (x ∷ seen)) xs × Pairs IsApart xs = later e in (
-            (is, each_weaker (IsUnseen (x ∷ seen)) (IsUnseen seen) (λ y k. or_second (same y x) (list_any (same y) seen) k) xs h.0),
-            (each_weaker (IsUnseen (x ∷ seen)) (IsApart x) (λ y k. or_first (same y x) (list_any (same y) seen) k) xs h.0, h.1),
+            (is, each_weaker (IsUnseen (x ∷ seen)) (IsUnseen seen) (λ y k. (or_parts (same y x) (list_any (same y) seen) k).1) xs h.0),
+            (each_weaker (IsUnseen (x ∷ seen)) (IsApart x) (λ y k. (or_parts (same y x) (list_any (same y) seen) k).0) xs h.0, h.1),
           )
 
   pub apart_repeated : (seen xs : List A) → Each (IsUnseen seen) xs → Pairs IsApart xs → repeated_after same seen xs ≡ None
@@ -88,7 +86,7 @@ module _ {A : Type 0} (same : A → A → Bool) where
   apart_repeated seen (x ∷ xs) h k =
       ap (λ b. cond b (Some x) (repeated_after same (x ∷ seen) xs)) h.0
       ∙ apart_repeated (x ∷ seen) xs
-      (each_weaker (λ y. IsApart x y × IsUnseen seen y) (IsUnseen (x ∷ seen)) (λ y both. or_false (same y x) (list_any (same y) seen) both.0 both.1) xs
+      (each_weaker (λ y. IsApart x y × IsUnseen seen y) (IsUnseen (x ∷ seen)) (λ y both. or_from (same y x) (list_any (same y) seen) both.0 both.1) xs
       (each_two (IsApart x) (IsUnseen seen) xs k.0 h.1)) k.1
 
 unseen_none : (vs : List Value) → Each (λ v. list_any (same_value v) [] ≡ false) vs

@@ -1,5 +1,6 @@
 -- What leaves the row versions that are kept, and how far the oldest SCN may go.
 use Rattle.std.proofs.Common.{ℕ, ◌≡◌, ◌∙◌, sym, ap, refl, subst, arith, suc, ◌≤◌, true, false, List, [], ◌∷◌, ◌++◌, map, true≢false}
+use Rattle.std.proofs.lemmas.Bool.{or_parts}
 use Rattle.std.specs.List.{fold, list_any}
 use Rattle.std.specs.Prelude.{Ok, codes}
 use Rattle.std.proofs.lemmas.List.{append-nil}
@@ -24,7 +25,6 @@ use Rattle.def_journal.specs.Journal.{state_after, state_of}
 use Rattle.def_journal.specs.State.{State, empty_state, with_base}
 use Rattle.law_trace.proofs.Bounding.{Known, based_kept, installed_kept, known}
 use Rattle.law_trace.proofs.Growing.{SamePast, dues_past, installed_past}
-use Rattle.law_trace.proofs.Listed.{or_first, or_second}
 use Rattle.law_trace.proofs.Moves.{Adds, Alters, Commits, Creates, Declares, Drops, Forgets, Installs, Logs, Move, Purges, Stays, Switches, Withdraws, installed, is_block}
 use Rattle.law_trace.proofs.Stepping.{moves}
 use Rattle.law_trace.proofs.Traces.{state_push}
@@ -120,8 +120,8 @@ move_reach s x d above h (Withdraws name is) = subst InReach (sym is) h
 events_reach : (s : State) (events : List Event) → list_any asks_below_zero events ≡ false → InReach s.catalog → InReach (fold state_after s events).catalog
 events_reach s [] above h = h
 events_reach s (e ∷ events) above h =
-    events_reach (state_after s e) events (or_second (asks_below_zero e) (list_any asks_below_zero events) above)
-    (move_reach s e (state_after s e).catalog (or_first (asks_below_zero e) (list_any asks_below_zero events) above) h (moves s e).catalog)
+    events_reach (state_after s e) events (or_parts (asks_below_zero e) (list_any asks_below_zero events) above).1
+    (move_reach s e (state_after s e).catalog (or_parts (asks_below_zero e) (list_any asks_below_zero events) above).0 h (moves s e).catalog)
 
 pub oldest_reached : (trace : List Event) → list_any asks_below_zero trace ≡ false → (catalog_of trace).oldest ≤ (catalog_of trace).scn
 oldest_reached trace above = events_reach empty_state trace above (omega arith)

@@ -31,7 +31,6 @@ pub mod Bounding
 pub mod Leaving
 pub mod Versions
 pub mod Changes
-pub mod Tested
 pub mod Marks
 pub mod Blocks
 pub mod Cuts

@@ -1,32 +1,13 @@
 -- Facts on lists by recursion, and what is found in lists that grow, lose items or have some changed.
-use Rattle.std.proofs.Common.{◌≡◌, ◌∙◌, sym, ap, refl, subst, arith, ℕ, ◌<◌, ◌≤◌, Bool, true, false, cond, not, List, [], ◌∷◌, ◌++◌, map, None, Some, nat_le, ◌==◌, ◌&&◌, ◌||◌, true≢false}
-use Rattle.std.specs.List.{All, AllPairs, filter, find, flat_map}
+use Rattle.std.proofs.Common.{◌≡◌, ◌∙◌, sym, ap, refl, subst, arith, ℕ, ◌<◌, ◌≤◌, Bool, true, false, cond, not, List, [], ◌∷◌, ◌++◌, map, None, Some, ◌==◌, ◌||◌}
+use Rattle.std.specs.List.{All, AllPairs, filter, find, flat_map, list_any}
 use Rattle.std.specs.Prelude.{option_map}
-use Rattle.std.proofs.lemmas.Bool.{eqb-true, le-leb, lt-leb}
+use Rattle.std.proofs.lemmas.Bool.{eqb-true}
 use Rattle.std.proofs.lemmas.List.Elements.{All-cons, All-nil}
 use Rattle.std.proofs.lemmas.List.Kept.{AllPairs-cons}
-
--- ---- options and tests
-
-pub none_not_some : {A : Type 0} (x : A) → None ≡ Some x → ⊥
-none_not_some x e = cc
-
-pub some_same : {A : Type 0} (x y : A) → Some x ≡ Some y → x ≡ y
-some_same x y e = cc
-
-pub or_first : (a b : Bool) → (a || b) ≡ false → a ≡ false
-or_first true b e = absurd (true≢false e)
-or_first false b e = refl
-
-pub or_second : (a b : Bool) → (a || b) ≡ false → b ≡ false
-or_second true b e = absurd (true≢false e)
-or_second false b e = e
+pub use Rattle.law_lists.proofs.Each.{Each, Each-append as each_append, Each-both as each_two, Each-filter as each_filter, Each-map as each_weaker, Each-of as each_every, Each-of_mapped as each_unmap}
 
 -- ---- of each item, and of each item with each later one
-
-abbrev pub Each : {A : Type 0} → (A → Type 0) → List A → Type 0
-Each P [] = Unit {0}
-Each P (x ∷ xs) = P x × Each P xs
 
 abbrev pub Pairs : {A : Type 0} → (A → A → Type 0) → List A → Type 0
 Pairs R [] = Unit {0}
@@ -40,22 +21,6 @@ pub pairs_from : {A : Type 0} (R : A → A → Type 0) (xs : List A) → Pairs R
 pairs_from R [] h = λ i j d below within. absurd (omega (arith, within))
 pairs_from R (x ∷ xs) h = AllPairs-cons R x xs (all_from (R x) xs h.0) (pairs_from R xs h.1)
 
-pub each_weaker : {A : Type 0} (P Q : A → Type 0) → ((x : A) → P x → Q x) → (xs : List A) → Each P xs → Each Q xs
-each_weaker P Q f [] h = tt
-each_weaker P Q f (x ∷ xs) h = (f x h.0, each_weaker P Q f xs h.1)
-
-pub each_two : {A : Type 0} (P Q : A → Type 0) (xs : List A) → Each P xs → Each Q xs → Each (λ x. P x × Q x) xs
-each_two P Q [] h k = tt
-each_two P Q (x ∷ xs) h k = ((h.0, k.0), each_two P Q xs h.1 k.1)
-
-pub each_every : {A : Type 0} (P : A → Type 0) → ((x : A) → P x) → (xs : List A) → Each P xs
-each_every P k [] = tt
-each_every P k (x ∷ xs) = (k x, each_every P k xs)
-
-pub each_append : {A : Type 0} (P : A → Type 0) (xs ys : List A) → Each P xs → Each P ys → Each P (xs ++ ys)
-each_append P [] ys h k = k
-each_append P (x ∷ xs) ys h k = (h.0, each_append P xs ys h.1 k)
-
 pub each_left : {A : Type 0} (P : A → Type 0) (xs ys : List A) → Each P (xs ++ ys) → Each P xs
 each_left P [] ys h = tt
 each_left P (x ∷ xs) ys h = (h.0, each_left P xs ys h.1)
@@ -68,10 +33,6 @@ pub each_map : {A B : Type 0} (P : A → Type 0) (Q : B → Type 0) (f : A → B
 each_map P Q f k [] h = tt
 each_map P Q f k (x ∷ xs) h = (k x h.0, each_map P Q f k xs h.1)
 
-pub each_unmap : {A B : Type 0} (Q : B → Type 0) (f : A → B) (xs : List A) → Each Q (map f xs) → Each (λ x. Q (f x)) xs
-each_unmap Q f [] h = tt
-each_unmap Q f (x ∷ xs) h = (h.0, each_unmap Q f xs h.1)
-
 pub each_made : {A B : Type 0} (Q : B → Type 0) (f : A → B) → ((x : A) → Q (f x)) → (xs : List A) → Each Q (map f xs)
 each_made Q f k [] = tt
 each_made Q f k (x ∷ xs) = (k x, each_made Q f k xs)
@@ -79,14 +40,6 @@ each_made Q f k (x ∷ xs) = (k x, each_made Q f k xs)
 pub each_flat : {A B : Type 0} (Q : B → Type 0) (f : A → List B) → ((x : A) → Each Q (f x)) → (xs : List A) → Each Q (flat_map f xs)
 each_flat Q f k [] = tt
 each_flat Q f k (x ∷ xs) = each_append Q (f x) (flat_map f xs) (k x) (each_flat Q f k xs)
-
-pub each_filter : {A : Type 0} (P : A → Type 0) (p : A → Bool) (xs : List A) → Each P xs → Each P (filter p xs)
-each_filter P p [] h = tt
-each_filter P p (x ∷ xs) h = by (p x) h.0 (each_filter P p xs h.1)
-  where
-    by : (b : Bool) → P x → Each P (filter p xs) → Each P (cond b (x ∷ filter p xs) (filter p xs))
-    by true first rest = (first, rest)
-    by false first rest = rest
 
 pub pairs_append : {A : Type 0} (R : A → A → Type 0) (xs ys : List A) → Pairs R xs → Pairs R ys → Each (λ x. Each (R x) ys) xs → Pairs R (xs ++ ys)
 pairs_append R [] ys h k across = k
@@ -222,12 +175,6 @@ filter_behind p (x ∷ xs) ys h = ap (λ rest. cond (p x) (x ∷ rest) rest) (fi
 
 -- ---- tests of numbers
 
-pub le_true : (m n : ℕ) → m ≤ n → nat_le m n ≡ true
-le_true m n h = le-leb m n h
-
-pub le_false : (m n : ℕ) → n < m → nat_le m n ≡ false
-le_false m n h = lt-leb m n h
-
 pub eq_false : (m n : ℕ) → m < n → (n == m) ≡ false
 eq_false m n h = by (n == m) refl
   where
@@ -235,6 +182,13 @@ eq_false m n h = by (n == m) refl
     by true e = let same : n ≡ m = eqb-true n m e in absurd (omega arith)
     by false e = e
 
-pub and_false : (a b : Bool) → b ≡ false → (a && b) ≡ false
-and_false true b h = h
-and_false false b h = refl
+pub below_differs : (m n : ℕ) → m < n → (m == n) ≡ false
+below_differs m n low = by (m == n) refl
+  where
+    by : (b : Bool) → (m == n) ≡ b → (m == n) ≡ false
+    by true e = let same : m ≡ n = eqb-true m n e in absurd (omega arith)
+    by false e = e
+
+pub any_false : {A : Type 0} (p : A → Bool) (xs : List A) → Each (λ x. p x ≡ false) xs → list_any p xs ≡ false
+any_false p [] h = refl
+any_false p (x ∷ xs) h = ap (λ b. b || list_any p xs) h.0 ∙ any_false p xs h.1

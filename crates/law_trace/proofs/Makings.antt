@@ -1,8 +1,9 @@
 -- The changes that a statement makes, one after another: a row comes, takes new values, or goes. A row that moves goes, and comes again.
-use Rattle.std.proofs.Common.{◌≡◌, ◌∙◌, sym, ap, refl, subst, arith, ℕ, suc, ◌+◌, ◌<◌, ◌≤◌, Bool, true, false, true≢false, cond, not, List, [], ◌∷◌, ◌++◌, map, Option, None, Some, ◌==◌, ◌&&◌}
+use Rattle.std.proofs.Common.{◌≡◌, ◌∙◌, sym, ap, refl, subst, arith, ℕ, suc, ◌+◌, ◌≤◌, Bool, true, false, true≢false, cond, not, List, [], ◌∷◌, ◌++◌, map, Option, None, Some, ◌==◌, ◌&&◌}
+use Rattle.std.proofs.Math.Bool.{and-false}
 use Rattle.std.specs.List.{enumerate_from, filter, fold}
 use Rattle.std.specs.Prelude.{count_by, zip}
-use Rattle.std.proofs.lemmas.Bool.{eq-eqb, eqb-true}
+use Rattle.std.proofs.lemmas.Bool.{eq-eqb}
 use Rattle.std.proofs.lemmas.Bool.Decides.{Decides-eqb}
 use Rattle.std.proofs.lemmas.List.{append-nil, length-map}
 use Rattle.std.proofs.lemmas.List.Elements.{filter-append}
@@ -18,7 +19,7 @@ use Rattle.wh_base.specs.declared.tables.TableDef.{TableDef}
 use Rattle.wh_base.specs.declared.values.Value.{Value}
 use Rattle.def_effect.specs.Block.{changed_row_refusal, column_refusal, deleted_change, has_no_partition, inserted_change, is_moved, made_changes, moves_row, new_row_refusal, set_or_old, set_value, updated_change, updated_row}
 use Rattle.law_trace.proofs.Asking.{Deletes, Inserts, IsWide, Shape, Updates}
-use Rattle.law_trace.proofs.Listed.{Each, Pairs, each_append, each_filter, each_map, each_two, each_unmap, each_weaker, eq_false, filter_none, pairs_filter}
+use Rattle.law_trace.proofs.Listed.{Each, Pairs, below_differs, each_append, each_filter, each_map, each_two, each_unmap, each_weaker, eq_false, filter_none, pairs_filter}
 use Rattle.law_trace.proofs.Basing.{none_first, none_rest, none_where}
 use Rattle.law_trace.specs.Rows.{Fits, IsGiven, IsOlder}
 
@@ -128,13 +129,6 @@ other_kept rows i j (Some old) (Some new) h =
 row_stays : (m k : ℕ) (rows : List Row) (c : Change) (r : Row) → m ≤ k → (c.rowid == r.rowid) ≡ false → HasRow m rows r → HasRow k (rows_after rows c) r
 row_stays m k rows c r low differ h = record { low = h.low; given = omega (arith, h.given); alone = other_kept rows c.rowid r.rowid c.old c.new differ ∙ h.alone }
 
-pub below_differs : (m n : ℕ) → m < n → (m == n) ≡ false
-below_differs m n low = by (m == n) refl
-  where
-    by : (b : Bool) → (m == n) ≡ b → (m == n) ≡ false
-    by true e = let same : m ≡ n = eqb-true m n e in absurd (omega arith)
-    by false e = e
-
 -- those after the row that changes
 later_stay : (m k : ℕ) (rows : List Row) (c : Change) (r : Row) (rs : List Row) → m ≤ k → c.rowid ≡ r.rowid → Each (IsOlder r) rs → Each (HasRow m rows) rs → Each (HasRow k (rows_after rows c)) rs
 later_stay m k rows c r rs low is older h =
@@ -167,10 +161,6 @@ rows_own m (x ∷ xs) older given = (
 
 -- ---- a statement
 
-and_none : (a : Bool) → (a && false) ≡ false
-and_none true = refl
-and_none false = refl
-
 absent : (m : ℕ) (rows : List Row) → Each (IsGiven m) rows → filter (λ q. q.rowid == suc m) rows ≡ []
 absent m rows given = filter_none (λ q. q.rowid == suc m) rows (each_weaker (IsGiven m) (λ q. (q.rowid == suc m) ≡ false) (λ q g. below_differs q.rowid (suc m) (omega (arith, g.1))) rows given)
 
@@ -191,7 +181,7 @@ module _ (t : Table) where
       let whole : Steps t m rows (inserted_change (suc m, v) ∷ made_changes t (suc m) (map inserted_change (enumerate_from (suc m + 1) vs))) =
       (Comes v fits.0 (absent m rows given) refl, subst (λ n. Steps t n (rows ++ record { rowid = suc m; values = v } ∷ []) (made_changes t (suc m) (map inserted_change (enumerate_from (suc m + 1) vs)))) one there) in
       subst (λ b. Steps t m rows (cond b (record { rowid = suc m; old = None; new = None } ∷ record { rowid = suc m; old = None; new = Some v } ∷ made_changes t (suc m) (map inserted_change (enumerate_from (suc m + 1) vs)))
-      (inserted_change (suc m, v) ∷ made_changes t (suc m) (map inserted_change (enumerate_from (suc m + 1) vs))))) (sym (and_none t.def.movement)) whole
+      (inserted_change (suc m, v) ∷ made_changes t (suc m) (map inserted_change (enumerate_from (suc m + 1) vs))))) (sym (and-false t.def.movement)) whole
 
   deletes_step : (m : ℕ) (rows rs : List Row) → Pairs IsOlder rs → Each (HasRow m rows) rs → Steps t m rows (made_changes t m (map deleted_change rs))
   deletes_step m rows [] older h = tt
@@ -201,7 +191,7 @@ module _ (t : Table) where
       let whole : Steps t m rows (deleted_change r ∷ made_changes t m (map deleted_change rs)) =
       (Goes r h.0 refl, subst (λ n. Steps t n (rows_after rows (deleted_change r)) (made_changes t m (map deleted_change rs))) (count_none m) rest) in
       subst (λ b. Steps t m rows (cond b (record { rowid = r.rowid; old = Some r.values; new = None } ∷ record { rowid = suc m; old = None; new = None } ∷ made_changes t (suc m) (map deleted_change rs))
-      (deleted_change r ∷ made_changes t m (map deleted_change rs)))) (sym (and_none t.def.movement)) whole
+      (deleted_change r ∷ made_changes t m (map deleted_change rs)))) (sym (and-false t.def.movement)) whole
 
   updates_step : (sets : List SetColumn) (m : ℕ) (rows rs : List Row) → Pairs IsOlder rs → Each (HasRow m rows) rs → Each (IsGiven m) rows → Each (λ r. Fits t (updated_row t.def sets r.values)) rs
       → Steps t m rows (made_changes t m (map (updated_change t.def sets) rs))

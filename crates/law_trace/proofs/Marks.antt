@@ -16,6 +16,7 @@ use Rattle.wh_base.specs.declared.values.Interval.{Interval}
 use Rattle.wh_base.specs.declared.values.Value.{Value}
 use Rattle.def_effect.specs.Block.{has_no_partition}
 use Rattle.law_trace.proofs.Listed.{Each}
+pub use Rattle.law_lists.proofs.Options.{find_more}
 
 -- ---- bounds
 
@@ -71,14 +72,6 @@ found_number t key = by (part_of_key t key) ∙ ap (λ (o : Option Part). option
     by (Some p) = refl
 
 -- ---- more partitions, and fewer
-
-find_more : {A : Type 0} (p : A → Bool) (xs ys : List A) (x : A) → find p xs ≡ Some x → find p (xs ++ ys) ≡ Some x
-find_more p [] ys x e = absurd (cc)
-find_more p (y ∷ xs) ys x e = by (p y) e (find_more p xs ys x)
-  where
-    by : (b : Bool) → cond b (Some y) (find p xs) ≡ Some x → (find p xs ≡ Some x → find p (xs ++ ys) ≡ Some x) → cond b (Some y) (find p (xs ++ ys)) ≡ Some x
-    by true f rest = f
-    by false f rest = rest f
 
 find_fewer : {A : Type 0} (p keep : A → Bool) (xs : List A) (x : A) → find p xs ≡ Some x → keep x ≡ true → find p (filter keep xs) ≡ Some x
 find_fewer p keep [] x e stays = absurd (cc)

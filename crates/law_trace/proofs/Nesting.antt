@@ -1,5 +1,6 @@
 -- Views over views: they are never registered, and the view beneath is there.
 use Rattle.std.proofs.Common.{◌≡◌, ◌∙◌, sym, ap, refl, subst, ℕ, Bool, true, false, true≢false, cond, not, List, [], ◌∷◌, ◌++◌, Option, None, Some, ◌==◌}
+use Rattle.std.proofs.lemmas.Option.{none-some}
 use Rattle.std.specs.List.{filter, find}
 use Rattle.std.specs.Option.{ForSome}
 use Rattle.std.specs.Prelude.{is_some, option_and_then, option_map}
@@ -17,7 +18,7 @@ use Rattle.def_journal.specs.Refreshing.{change_view, refreshed_to}
 use Rattle.def_journal.specs.State.{State}
 use Rattle.def_resolve.specs.Names.{lone_name}
 use Rattle.law_trace.proofs.Due.{KeepsDue, dues_keep, installs_keep, suspended}
-use Rattle.law_trace.proofs.Listed.{Each, all_from, each_append, each_every, each_filter, each_map, each_two, each_weaker, find_changed, none_not_some}
+use Rattle.law_trace.proofs.Listed.{Each, all_from, each_append, each_every, each_filter, each_map, each_two, each_weaker, find_changed}
 use Rattle.law_trace.proofs.Moves.{Adds, Alters, Commits, Creates, Declares, Drops, Forgets, Installs, KeepsView, Logs, MakesView, Move, Over, Plain, Purges, Stays, Switches, Withdraws}
 use Rattle.law_trace.proofs.Stepping.{moves}
 use Rattle.law_trace.proofs.Traces.{by_events, state_push}
@@ -107,7 +108,7 @@ due_stand : KeepsDue AllStand
 due_stand = record { suspends = λ d n h. stand_changed d n suspended (λ v. refl) h; refreshes = λ d n h. stand_changed d n (refreshed_to d.scn) (λ v. refl) h }
 
 find_behind : (p : View → Bool) (vs ws : List View) (u : View) → find p vs ≡ Some u → find p (vs ++ ws) ≡ Some u
-find_behind p [] ws u e = absurd (none_not_some u e)
+find_behind p [] ws u e = absurd (none-some u e)
 find_behind p (v ∷ vs) ws u e = by (p v) e (find_behind p vs ws u)
   where
     by : (b : Bool) → cond b (Some v) (find p vs) ≡ Some u → (find p vs ≡ Some u → find p (vs ++ ws) ≡ Some u) → cond b (Some v) (find p (vs ++ ws)) ≡ Some u
@@ -116,7 +117,7 @@ find_behind p (v ∷ vs) ws u e = by (p v) e (find_behind p vs ws u)
 
 -- what is found in any way is found by its number
 found_there : (test : View → Bool) (vs : List View) (u : View) → find test vs ≡ Some u → (w : View) × (find (λ v. v.def.view == u.def.view) vs ≡ Some w)
-found_there test [] u e = absurd (none_not_some u e)
+found_there test [] u e = absurd (none-some u e)
 found_there test (v ∷ vs) u e = by (test v) (v.def.view == u.def.view) refl e (found_there test vs u)
   where
     by : (a b : Bool) → (v.def.view == u.def.view) ≡ b → cond a (Some v) (find test vs) ≡ Some u → (find test vs ≡ Some u → (w : View) × (find (λ v. v.def.view == u.def.view) vs ≡ Some w))
@@ -132,11 +133,11 @@ beneath_there : (c : Catalog) (q : RawQuery) (u : View) → view_beneath c q ≡
 beneath_there c q u is = by (lone_name q) is
   where
     by : (o : Option (List ℕ)) → option_and_then (view_named c) o ≡ Some u → IsThere c u.def.view
-    by None e = absurd (none_not_some u e)
+    by None e = absurd (none-some u e)
     by (Some name) e = found_there (λ v. same_text v.def.name name) c.views u e
 
 stand_made : (c : Catalog) (v : NewView) (w : View) → MakesView c v w → Stands c w
-stand_made c v w (Plain q star is) = subst (Stands c) (sym is) (λ n e. absurd (none_not_some n e))
+stand_made c v w (Plain q star is) = subst (Stands c) (sym is) (λ n e. absurd (none-some n e))
 stand_made c v w (Over u q beneath star built is) = subst (Stands c) (sym is) (λ n e. subst (IsThere c) (some_is u.def.view n e) (beneath_there c v.asked.query u beneath))
   where
     some_is : (m n : ℕ) → Some m ≡ Some n → m ≡ n
@@ -144,7 +145,7 @@ stand_made c v w (Over u q beneath star built is) = subst (Stands c) (sym is) (�
 
 -- one that stays is found where those of another number go
 find_left : (n m : ℕ) → (m == n) ≡ false → (vs : List View) (u : View) → find (λ v. v.def.view == m) vs ≡ Some u → find (λ v. v.def.view == m) (filter (λ v. not (v.def.view == n)) vs) ≡ Some u
-find_left n m differ [] u e = absurd (none_not_some u e)
+find_left n m differ [] u e = absurd (none-some u e)
 find_left n m differ (v ∷ vs) u e = by (v.def.view == m) (v.def.view == n) refl refl e (find_left n m differ vs u)
   where
     by : (a b : Bool) → (v.def.view == m) ≡ a → (v.def.view == n) ≡ b → cond a (Some v) (find (λ v. v.def.view == m) vs) ≡ Some u

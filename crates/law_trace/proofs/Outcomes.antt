@@ -1,8 +1,9 @@
 -- What holds of each result of a step that may be refused.
 use Rattle.std.proofs.Common.{◌≡◌, refl, subst, Bool, true, false, cond, List, ◌∷◌, Option, None, Some}
 use Rattle.std.specs.Prelude.{Err, Ok, Result}
-use Rattle.wh_base.specs.Lists.{first_some, option_case, unless, unless_then, where_true, ◌>>=◌}
+use Rattle.wh_base.specs.Lists.{first_some, option_case, or_refuse, unless, unless_then, where_true, ◌>>=◌}
 use Rattle.def_journal.specs.State.{State, Step}
+pub use Rattle.law_lists.proofs.Options.{none_where}
 
 -- P of the value, where there is one
 abbrev pub EachOk : {A E : Type 0} → (A → Type 0) → Result A E → Type 0
@@ -33,10 +34,6 @@ pub first_none : {A : Type 0} (b : Bool) (x : A) (rest : List (Option A)) → fi
 first_none true x rest e = absurd (cc)
 first_none false x rest e = refl
 
-pub none_where : {A : Type 0} (b : Bool) (x : A) → where_true b x ≡ None → b ≡ false
-none_where true x e = absurd (cc)
-none_where false x e = refl
-
 -- ---- of the state that a step leaves
 
 pub cond_step : (P : State → Type 0) (b : Bool) (one other : Step) → (b ≡ true → P one.state) → (b ≡ false → P other.state) → P (cond b one other).state
@@ -46,3 +43,7 @@ cond_step P false one other h k = k refl
 pub option_step : {A : Type 0} (P : State → Type 0) (o : Option A) (none : Step) (some : A → Step) → P none.state → ((x : A) → o ≡ Some x → P (some x).state) → P (option_case o none some).state
 option_step P None none some h k = h
 option_step P (Some x) none some h k = k x refl
+
+pub refused_not : {A E : Type 0} (o : Option A) (e : E) (x : A) → or_refuse o e ≡ Ok x → o ≡ Some x
+refused_not None e x h = cc
+refused_not (Some y) e x h = cc

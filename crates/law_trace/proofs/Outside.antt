@@ -2,7 +2,7 @@
 use Rattle.std.proofs.Common.{◌≡◌, ◌∙◌, sym, ap, refl, subst, arith, ℕ, zero, suc, ◌<◌, ◌≤◌, Bool, true, false, cond, List, [], ◌∷◌, ◌++◌, length, map, Option, None, Some, nat_le, nat_lt, ◌==◌, ◌&&◌, ◌⊎◌, inl, inr}
 use Rattle.std.specs.List.{enumerate_from, find}
 use Rattle.std.specs.Prelude.{Ok}
-use Rattle.std.proofs.lemmas.Bool.{eqb-true, leb-false, lt-ltb, ltb-false, ltb-true}
+use Rattle.std.proofs.lemmas.Bool.{and_from, eqb-true, le-leb, leb-false, lt-ltb, ltb-false, ltb-true}
 use Rattle.std.proofs.lemmas.List.{append-nil}
 use Rattle.wh_base.specs.Lists.{option_case}
 use Rattle.wh_base.specs.Tables.{Base, Row, Table, TableChange, empty_table, table_after, table_at, with_table}
@@ -25,7 +25,7 @@ use Rattle.law_trace.proofs.Basing.{base_altered, base_committed, base_created, 
 use Rattle.law_trace.proofs.Bordering.{PartsRight, trace_numbered}
 use Rattle.law_trace.proofs.Fitting.{AllFit, trace_fits, trace_sound}
 use Rattle.law_trace.proofs.Growing.{SamePast, dues_past, installed_past}
-use Rattle.law_trace.proofs.Listed.{Each, each_flat, each_left, each_made, each_right, each_two, each_unmap, each_weaker, le_true}
+use Rattle.law_trace.proofs.Listed.{Each, each_flat, each_left, each_made, each_right, each_two, each_unmap, each_weaker}
 use Rattle.law_trace.proofs.Moves.{Adds, Alters, Commits, Creates, Declares, Drops, Forgets, Installs, Logs, Move, Purges, Stays, IsSameTable, Switches, Withdraws, installed}
 use Rattle.law_trace.proofs.Rising.{Sound}
 use Rattle.law_trace.proofs.Stepping.{moves}
@@ -33,7 +33,6 @@ use Rattle.law_trace.proofs.Tabling.{IsBounded, base_later, bounded_of, installe
 use Rattle.law_trace.proofs.Traces.{by_events, state_push}
 use Rattle.law_trace.proofs.Untouched.{differ_of, more_rows, with_length, with_other}
 use Rattle.law_trace.specs.Reached.{catalog_of, still}
-use Rattle.law_trace.proofs.Tested.{both_hold}
 use Rattle.law_trace.proofs.Blocks.{IsOutside, SidesGone, TouchOutside, Within, block_within, commit_gone, with_own}
 use Rattle.law_trace.proofs.Changes.{table_past}
 use Rattle.law_trace.proofs.Cuts.{cut_same}
@@ -192,7 +191,7 @@ touched_at scn base changes =
 -- a touch at the next SCN is after each that was reached
 touch_free : (out : ℕ → Value → Bool) (n q scn : ℕ) (t : Touched) → q ≤ scn → t.touch.scn ≡ suc scn → Avoids out n q t → TouchOutside out n t
 touch_free out n q scn t low at avoids own =
-    avoids (both_hold (t.table == n) (nat_lt q t.touch.scn) own (lt-ltb q t.touch.scn (omega (arith, low, at))))
+    avoids (and_from (t.table == n) (nat_lt q t.touch.scn) own (lt-ltb q t.touch.scn (omega (arith, low, at))))
 
 block_length : (keep : ℕ) (base : Base) (ss : List Statement) (p : Progress) → effect base keep ss ≡ Ok p → length base ≡ length p.base
 block_length keep base ss p same =
@@ -267,7 +266,7 @@ outside_none n q out avoids =
     same_base out n (base_at empty_catalog q) [] same (subst (λ base. AllFit (table_at base n)) (sym same) tt)
   where
     same : base_at empty_catalog q ≡ []
-    same = ap (λ b. option_case (cond b (Some (0, [])) None) [] (λ (p : ℕ × Base). p.1)) (le_true 0 q (omega arith))
+    same = ap (λ b. option_case (cond b (Some (0, [])) None) [] (λ (p : ℕ × Base). p.1)) (le-leb 0 q (omega arith))
 
 known_of : (front : List Event) (e : Event) → Known (catalog_of front) (state_after (state_of front) e).catalog
 known_of front e =

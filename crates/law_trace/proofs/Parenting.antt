@@ -1,5 +1,7 @@
 -- Each enabled foreign key holds.
 use Rattle.std.proofs.Common.{◌≡◌, ◌∙◌, sym, ap, refl, subst, ℕ, zero, suc, Bool, true, false, cond, not, List, [], ◌∷◌, ◌++◌, map, None, Some, ◌==◌, ◌&&◌, ◌||◌}
+use Rattle.law_lists.proofs.Each.{Each-from_none}
+use Rattle.std.proofs.Math.Bool.{or_assoc}
 use Rattle.std.specs.List.{filter, find, list_any}
 use Rattle.wh_base.specs.Lists.{first_of}
 use Rattle.wh_base.specs.Tables.{Base, Row, Table, defs_of, table_after, table_at, value_at, with_table}
@@ -20,8 +22,8 @@ use Rattle.def_meaning.specs.Meaning.{not_null}
 use Rattle.law_trace.proofs.Basing.{ByAdd, ByDrop, ByMovement, ByRegroup, ByTruncate, CutBy, KeepsBase, Passes, asked_changes, base_holds, cut_by, each_with, made, made_of, none_each, none_map, none_where}
 use Rattle.law_trace.proofs.Finishing.{Finished, finished}
 use Rattle.law_trace.proofs.Keying.{regrouped_values, thin_each}
-use Rattle.law_trace.proofs.Listed.{Each, each_append, each_every, each_two, each_unmap, each_weaker, or_first, or_second}
-use Rattle.law_trace.proofs.Untouched.{differ_of, more_rows, with_other}
+use Rattle.law_trace.proofs.Listed.{Each, any_false, each_append, each_every, each_two, each_unmap, each_weaker}
+use Rattle.law_trace.proofs.Untouched.{differ_of, more_rows, still_rows, with_other}
 use Rattle.law_trace.specs.Reached.{catalog_of}
 use Rattle.law_trace.specs.Rows.{HasParents}
 
@@ -43,20 +45,12 @@ parents_same : (base later : Base) (t : Table) (f : ForeignDef) → (table_at ba
 parents_same base later t f same h =
     ap (λ parents. list_any (has_none parents) (column_values t f.column)) (sym (rows_tell (table_at base f.table) (table_at later f.table) f.to same)) ∙ h
 
-pub any_each : {A : Type 0} (p : A → Bool) (xs : List A) → list_any p xs ≡ false → Each (λ x. p x ≡ false) xs
-any_each p [] e = tt
-any_each p (x ∷ xs) e = (or_first (p x) (list_any p xs) e, any_each p xs (or_second (p x) (list_any p xs) e))
-
-each_any : {A : Type 0} (p : A → Bool) (xs : List A) → Each (λ x. p x ≡ false) xs → list_any p xs ≡ false
-each_any p [] h = refl
-each_any p (x ∷ xs) h = ap (λ b. b || list_any p xs) h.0 ∙ each_any p xs h.1
-
 -- with fewer rows there are fewer values without a parent
 parents_fewer : (base : Base) (t : Table) (p : Row → Bool) (f : ForeignDef) → HasParents base t f → HasParents base (record t { rows = filter p t.rows }) f
 parents_fewer base t p f h =
     let missing : (Value → Bool) = has_none (column_values (table_at base f.table) f.to) in
-    each_any missing (column_values (record t { rows = filter p t.rows }) f.column)
-    (thin_each (λ v. missing v ≡ false) not_null (λ r. value_at r.values f.column) p t.rows (any_each missing (column_values t f.column) h))
+    any_false missing (column_values (record t { rows = filter p t.rows }) f.column)
+    (thin_each (λ v. missing v ≡ false) not_null (λ r. value_at r.values f.column) p t.rows (Each-from_none missing (column_values t f.column) h))
 
 -- ---- a statement
 
@@ -88,7 +82,7 @@ all_there base n t h k =
 
 none_lost : (base : Base) (n : ℕ) (t : Table) → child_refusal base n t ≡ None → NoneLost base n t
 none_lost base n t none =
-    any_each (λ f. IsOf n f && is_orphaned base t f) (enabled t.def)
+    Each-from_none (λ f. IsOf n f && is_orphaned base t f) (enabled t.def)
     (none_where (list_any (λ f. IsOf n f && is_orphaned base t f) (enabled t.def)) (ChildExists (table_at base n).def.name t.def.name) none)
 
 abbrev ParentsPass : Base → Table → Type 0
@@ -137,14 +131,6 @@ cuts kept base n t a (ByTruncate name p named none is) = subst (λ (a : Altering
 cuts kept base n t a (ByRegroup before after groups is) = Mixes before after (ap (λ (a : Altering). a.table) is)
 cuts kept base n t a (ByMovement on is) = subst (λ (a : Altering). Cut base n t a.table) (sym is) (Stays refl refl)
 
--- each table has the rows that it had
-with_rows : (base : Base) (n m : ℕ) (t : Table) → t.rows ≡ (table_at base n).rows → (table_at base m).rows ≡ (table_at (with_table base n t) m).rows
-with_rows [] n m t same = refl
-with_rows (u ∷ us) zero zero t same = sym same
-with_rows (u ∷ us) zero (suc m) t same = refl
-with_rows (u ∷ us) (suc n) zero t same = refl
-with_rows (u ∷ us) (suc n) (suc m) t same = with_rows us n m t same
-
 -- what the rows and the definition of a table tell
 there_told : (base : Base) (t u : Table) → u.rows ≡ t.rows → enabled u.def ≡ enabled t.def → ParentsThere base t → ParentsThere base u
 there_told base t u rows def h =
@@ -167,7 +153,7 @@ Unreferred n t = Each (λ f. IsOf n f ≡ false) (enabled t.def)
 none_refer : (base : Base) (n : ℕ) → referred_refusal base n ≡ None → Each (Unreferred n) base
 none_refer base n none =
     let refers : (TableDef → Bool) = λ d. list_any (IsOf n) (enabled d) in
-    each_weaker (λ t. refers t.def ≡ false) (Unreferred n) (λ t e. any_each (IsOf n) (enabled t.def) e) base
+    each_weaker (λ t. refers t.def ≡ false) (Unreferred n) (λ t e. Each-from_none (IsOf n) (enabled t.def) e) base
     (each_unmap (λ d. refers d ≡ false) (λ (t : Table). t.def) base (find_none refers (defs_of base) (none_map _ (referring base n) none)))
 
 unreferred_there : (base : Base) (n : ℕ) (t u : Table) → OthersThere base n u → Unreferred n u → ParentsThere base u
@@ -182,10 +168,6 @@ or_swap true true c = refl
 or_swap true false c = refl
 or_swap false true c = refl
 or_swap false false c = refl
-
-or_assoc : (a b c : Bool) → ((a || b) || c) ≡ (a || (b || c))
-or_assoc true b c = refl
-or_assoc false b c = refl
 
 any_joined : {A : Type 0} (g : A → Bool) (xs ys : List A) → list_any g (xs ++ ys) ≡ (list_any g xs || list_any g ys)
 any_joined g [] ys = refl
@@ -248,7 +230,7 @@ cut_parented base n u (Stays rows def) h =
     let later : Base = with_table base n u in
     let all : Each (ParentsThere later) base =
     each_weaker (ParentsThere base) (ParentsThere later)
-    (λ t each. each_weaker (HasParents base t) (HasParents later t) (λ f has. parents_same base later t f (with_rows base n f.table u rows) has) (enabled t.def) each) base h in
+    (λ t each. each_weaker (HasParents base t) (HasParents later t) (λ f has. parents_same base later t f (still_rows base n f.table u rows) has) (enabled t.def) each) base h in
     each_with (ParentsThere later) base n u all (λ same was. there_told later (table_at base n) u rows def was)
 cut_parented base n u (Mixes before after is) h = subst (λ u. Parented (with_table base n u)) (sym is) (mixed_parented base n before after h)
 cut_parented base n u (Thins none p rows def) h =

@@ -1,5 +1,6 @@
 -- The points of the views, and the laws of views.
 use Rattle.std.proofs.Common.{◌≡◌, ◌≢◌, ◌∙◌, sym, ap, subst, arith, ℕ, suc, ◌≤◌, Bool, true, false, cond, not, List, [], ◌∷◌, ◌++◌, map, None, Option, Some, refl, ◌==◌}
+use Rattle.std.proofs.lemmas.Option.{none-some, same_Some}
 use Rattle.std.specs.Option.{ForSome}
 use Rattle.std.specs.Prelude.{option_and_then}
 use Rattle.std.proofs.lemmas.Bool.{eqb-true}
@@ -18,7 +19,7 @@ use Rattle.def_journal.specs.State.{Begun, Session, State, session_of}
 use Rattle.law_trace.proofs.Due.{KeepsDue, dues_keep, installs_keep, suspended}
 use Rattle.law_trace.proofs.Growing.{trace_grows}
 use Rattle.law_trace.proofs.Imaging.{all_begun}
-use Rattle.law_trace.proofs.Listed.{Each, Pairs, all_from, each_append, each_filter, each_found, each_map, each_unmap, each_weaker, none_not_some, pairs_from, pairs_left, pairs_right, some_same}
+use Rattle.law_trace.proofs.Listed.{Each, Pairs, all_from, each_append, each_filter, each_found, each_map, each_unmap, each_weaker, pairs_from, pairs_left, pairs_right}
 use Rattle.law_trace.proofs.Moves.{Adds, Alters, Commits, Creates, Declares, Drops, Forgets, Installs, Logs, Move, AtScn, AtView, Begins, Closes, Ends, IsPointIn, Keeps, MakesView, Nowhere, Opens, Over, Plain, Purges, Stays, Switches, Takes, Turn, Withdraws, installed, own}
 use Rattle.law_trace.proofs.Stepping.{moves}
 use Rattle.law_trace.proofs.Tabling.{trace_named}
@@ -40,7 +41,7 @@ raised : (scn : ℕ) (vs : List View) → Each (IsAtMost scn) vs → Each (IsAtM
 raised scn vs h = each_weaker (IsAtMost scn) (IsAtMost (suc scn)) (at_next scn) vs h
 
 refreshed_at : (scn m : ℕ) (v : View) → m ≤ scn → IsAtMost scn (refreshed_to m v)
-refreshed_at scn m v low p e = let same : m ≡ p = some_same m p e in omega arith
+refreshed_at scn m v low p e = let same : m ≡ p = same_Some m p e in omega arith
 
 pointed_changed : (c : Catalog) (n : ℕ) (f : View → View) → ((v : View) → IsAtMost c.scn v → IsAtMost c.scn (f v)) → Pointed c → Pointed (change_view n f c)
 pointed_changed c n f keeps h = each_map (IsAtMost c.scn) (IsAtMost c.scn) (λ v. cond (v.def.view == n) (f v) v) (λ v. by v (v.def.view == n)) c.views h
@@ -57,8 +58,8 @@ due_pointed =
     }
 
 built_at : (built : Bool) (scn p : ℕ) → where_true built scn ≡ Some p → p ≤ scn
-built_at true scn p e = let same : scn ≡ p = some_same scn p e in omega arith
-built_at false scn p e = absurd (none_not_some p e)
+built_at true scn p e = let same : scn ≡ p = same_Some scn p e in omega arith
+built_at false scn p e = absurd (none-some p e)
 
 -- the images of what was begun aren't of later SCNs, and their views have points too
 abbrev IsEarlier : State → Session → Type 0
@@ -69,11 +70,11 @@ beneath_at : (c : Catalog) (q : RawQuery) (u : View) → view_beneath c q ≡ So
 beneath_at c q u is h = by (lone_name q) is
   where
     by : (o : Option (List ℕ)) → option_and_then (view_named c) o ≡ Some u → IsAtMost c.scn u
-    by None e = absurd (none_not_some u e)
+    by None e = absurd (none-some u e)
     by (Some name) e = each_found (IsAtMost c.scn) (λ v. same_text v.def.name name) c.views u h e
 
 nested_at : (deferred : Bool) (o : Option ℕ) (scn : ℕ) → ForSome o (λ p. p ≤ scn) → ForSome (cond deferred None o) (λ p. p ≤ scn)
-nested_at true o scn h = λ p e. absurd (none_not_some p e)
+nested_at true o scn h = λ p e. absurd (none-some p e)
 nested_at false o scn h = h
 
 made_at : (c : Catalog) (v : NewView) (w : View) → MakesView c v w → Pointed c → IsAtMost c.scn w
@@ -127,15 +128,15 @@ turn_pointed s e y (Keeps reading begun) c h b found = h (entry_bearer e.entry) 
 turn_pointed s e y (Closes is) c h b found = h (entry_bearer e.entry) b (sym (ap (λ (x : Session). x.begun) is) ∙ found)
 turn_pointed s e y (Opens command is) c h b found = h (entry_bearer e.entry) b (sym (ap (λ (x : Session). x.begun) is) ∙ found)
 turn_pointed s e y (Begins r begins is) c h b found =
-    let same : b ≡ begun_over s.catalog r.name = some_same b (begun_over s.catalog r.name) (sym found ∙ ap (λ (x : Session). x.begun) is) in
+    let same : b ≡ begun_over s.catalog r.name = same_Some b (begun_over s.catalog r.name) (sym found ∙ ap (λ (x : Session). x.begun) is) in
     subst (λ (b : Begun). Pointed b.image) (sym same) c
-turn_pointed s e y (Ends is) c h b found = absurd (none_not_some b (sym (ap (λ (x : Session). x.begun) is) ∙ found))
+turn_pointed s e y (Ends is) c h b found = absurd (none-some b (sym (ap (λ (x : Session). x.begun) is) ∙ found))
 
 abbrev AllPointed : List Event → Type 0
 AllPointed trace = Pointed (catalog_of trace) × ImagesPointed (state_of trace)
 
 all_pointed : (trace : List Event) → AllPointed trace
-all_pointed = by_events AllPointed (tt, λ n b found. absurd (none_not_some b found)) step
+all_pointed = by_events AllPointed (tt, λ n b found. absurd (none-some b found)) step
   where
     images : (front : List Event) (e : Event) → AllPointed front → ImagesPointed (state_after (state_of front) e)
     images front e h n b found = by (is_of n e) refl

@@ -1,8 +1,9 @@
 -- A SPLIT or MERGE: the partitions before and behind those that end stay, and the new ones take over their intervals.
 use Rattle.std.proofs.Common.{◌≡◌, ◌∙◌, sym, ap, refl, subst, ℕ, Bool, true, false, true≢false, cond, not, List, [], ◌∷◌, ◌++◌, map, Option, None, Some, ◌==◌, ◌&&◌, ◌||◌}
+use Rattle.std.proofs.lemmas.Option.{none-some, same_Some}
 use Rattle.std.specs.List.{filter, find, list_any}
 use Rattle.std.specs.Ordering.{is_lt}
-use Rattle.std.proofs.lemmas.Bool.{eq-eqb, eqb-true}
+use Rattle.std.proofs.lemmas.Bool.{eq-eqb, eqb-true, or_right}
 use Rattle.std.proofs.lemmas.List.{append_assoc}
 use Rattle.wh_base.specs.Lists.{option_case, same_text}
 use Rattle.wh_base.specs.Tables.{Table, with_intervals}
@@ -16,7 +17,7 @@ use Rattle.wh_base.specs.declared.tables.Part.{Part}
 use Rattle.wh_base.specs.declared.values.Interval.{Interval}
 use Rattle.wh_base.specs.declared.values.Value.{Value}
 use Rattle.def_effect.specs.Partitions.{adjoins, is_ended, is_inside, lower_half, merged_part, part_named, replaced, upper_half}
-use Rattle.law_trace.proofs.Listed.{Each, Pairs, each_right, each_weaker, none_not_some, pairs_across, pairs_right, some_same}
+use Rattle.law_trace.proofs.Listed.{Each, Pairs, each_right, each_weaker, pairs_across, pairs_right}
 use Rattle.law_trace.proofs.Marks.{is_below}
 
 -- ---- values
@@ -73,11 +74,11 @@ record Found (lo : Option Value) (parts : List Part) (p : Part × Interval) : Ty
   interval : p.1 ≡ record { lo = top_of lo at.front; hi = p.0.below }
 
 found_at : (test : Part × Interval → Bool) (lo : Option Value) (parts : List Part) (p : Part × Interval) → find test (with_intervals lo parts) ≡ Some p → Found lo parts p
-found_at test lo [] p e = absurd (none_not_some p e)
+found_at test lo [] p e = absurd (none-some p e)
 found_at test lo (q ∷ parts) p e = by (test (q, record { lo = lo; hi = q.below })) e (found_at test q.below parts p)
   where
     by : (b : Bool) → cond b (Some (q, record { lo = lo; hi = q.below })) (find test (with_intervals q.below parts)) ≡ Some p → (find test (with_intervals q.below parts) ≡ Some p → Found q.below parts p) → Found lo (q ∷ parts) p
-    by true e later = subst (Found lo (q ∷ parts)) (some_same (q, record { lo = lo; hi = q.below }) p e) (record { at = record { front = []; back = parts; is = refl }; interval = refl })
+    by true e later = subst (Found lo (q ∷ parts)) (same_Some (q, record { lo = lo; hi = q.below }) p e) (record { at = record { front = []; back = parts; is = refl }; interval = refl })
     by false e later =
         let f : Found q.below parts p = later e in
         record { at = record { front = q ∷ f.at.front; back = f.at.back; is = ap (λ ps. q ∷ ps) f.at.is }; interval = f.interval }
@@ -262,16 +263,12 @@ each_pair : (P Q : Part → Type 0) (xs : List Part) → Each P xs → Each Q xs
 each_pair P Q [] h k = tt
 each_pair P Q (x ∷ xs) h k = ((h.0, k.0), each_pair P Q xs h.1 k.1)
 
-or_true : (a b : Bool) → b ≡ true → (a || b) ≡ true
-or_true true b e = refl
-or_true false b e = e
-
 two_replaced : (front : List Part) (p q : Part) (back news : List Part) → Pairs IsOther (front ++ (p ∷ q ∷ back)) → replaced (p.number ∷ q.number ∷ []) news (front ++ (p ∷ q ∷ back)) ≡ front ++ (news ++ back)
 two_replaced front p q back news all =
     let rest : Pairs IsOther (p ∷ q ∷ back) = pairs_right IsOther front (p ∷ q ∷ back) all in
     replaced_mid (numbers (p ∷ q ∷ [])) news front p (q ∷ []) back
     (each_weaker (λ r. Each (IsOther r) (p ∷ q ∷ back)) (λ r. is_ended (numbers (p ∷ q ∷ [])) r ≡ false) (λ r k. apart_two p q r (other_turned r p k.0) (other_turned r q k.1.0)) front (pairs_across IsOther front (p ∷ q ∷ back) all))
-    (ap (λ b. b || ((q.number == p.number) || false)) (eq-eqb p.number p.number refl), (or_true (p.number == q.number) ((q.number == q.number) || false) (ap (λ b. b || false) (eq-eqb q.number q.number refl)), tt))
+    (ap (λ b. b || ((q.number == p.number) || false)) (eq-eqb p.number p.number refl), (or_right (p.number == q.number) ((q.number == q.number) || false) (ap (λ b. b || false) (eq-eqb q.number q.number refl)), tt))
     (each_weaker (λ r. IsOther p r × IsOther q r) (λ r. is_ended (numbers (p ∷ q ∷ [])) r ≡ false) (λ r k. apart_two p q r k.0 k.1) back (each_pair (IsOther p) (IsOther q) back rest.0.1 rest.1.0))
 
 pub pair_at : (t : Table) (s : MergeParts) (p q : Part × Interval) → part_named t s.lower ≡ Some p → part_named t s.upper ≡ Some q → Pairs IsOther t.parts → adjoins t.parts p.0.number q.0.number ≡ true → Pair t.parts p q
@@ -309,7 +306,7 @@ merge_spans t s p q w others under =
     each_weaker (λ r. IsOther p.0 r × IsOther q.0 r) (λ r. is_ended (numbers mid) r ≡ false) (λ r k. apart_two p.0 q.0 r k.0 k.1) w.back (both (λ r. IsOther p.0 r) (λ r. IsOther q.0 r) w.back rest.0.1 rest.1.0) in
     let ends : Each (λ r. is_ended (numbers mid) r ≡ true) mid = (
       ap (λ b. b || ((q.0.number == p.0.number) || false)) (eq-eqb p.0.number p.0.number refl),
-      (or_true (p.0.number == q.0.number) (ap (λ b. b || false) (eq-eqb q.0.number q.0.number refl)), tt),
+      (or_right (p.0.number == q.0.number) (ap (λ b. b || false) (eq-eqb q.0.number q.0.number refl)), tt),
     ) in
     record {
       front = w.front;
@@ -332,9 +329,9 @@ merge_spans t s p q w others under =
     both P Q [] h k = tt
     both P Q (x ∷ xs) h k = ((h.0, k.0), both P Q xs h.1 k.1)
 
-    or_true : (a : Bool) {b : Bool} → b ≡ true → (a || b) ≡ true
-    or_true true e = refl
-    or_true false e = e
+    or_right : (a : Bool) {b : Bool} → b ≡ true → (a || b) ≡ true
+    or_right true e = refl
+    or_right false e = e
 
     covered : (a b : Bool) → (a ≡ true → b ≡ true) → (a || (b || false)) ≡ (b || false)
     covered true b k = sym (ap (λ b. b || false) (k refl))

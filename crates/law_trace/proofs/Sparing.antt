@@ -2,7 +2,7 @@
 use Rattle.std.proofs.Common.{◌≡◌, ◌∙◌, sym, ap, refl, ℕ, ◌≤◌, Bool, true, false, true≢false, cond, not, List, [], ◌∷◌, length, map, Option, None, Some, nat_le, nat_lt, ◌==◌, ◌&&◌}
 use Rattle.std.specs.List.{filter}
 use Rattle.std.specs.Prelude.{is_some}
-use Rattle.std.proofs.lemmas.Bool.{ltb-false, ltb-true}
+use Rattle.std.proofs.lemmas.Bool.{le-leb, ltb-false, ltb-true, not-true, or_parts}
 use Rattle.wh_base.specs.Lists.{option_case}
 use Rattle.wh_base.specs.Tables.{Base, Row, Table, row_at, table_at, value_at}
 use Rattle.wh_base.specs.Values.{interval_has}
@@ -18,10 +18,9 @@ use Rattle.def_meaning.specs.Joined.{rows_at}
 use Rattle.def_restrictions.proofs.Union.{any_has}
 use Rattle.law_trace.proofs.Fitting.{AllFit}
 use Rattle.law_trace.proofs.Growing.{reached, touches_bounded}
-use Rattle.law_trace.proofs.Listed.{Each, each_two, each_weaker, le_true, or_first, or_second}
+use Rattle.law_trace.proofs.Listed.{Each, each_two, each_weaker}
 use Rattle.law_trace.specs.Reached.{catalog_of, still}
 use Rattle.law_trace.specs.Rows.{Fits}
-use Rattle.law_trace.proofs.Tested.{was_false}
 use Rattle.law_trace.proofs.Blocks.{IsOutside}
 use Rattle.law_trace.proofs.Changes.{table_past}
 use Rattle.law_trace.proofs.Marks.{IsPlaced, kept, kept_of, marked, number_is, part_for, placed_of, row_marked, says, stays}
@@ -98,8 +97,8 @@ touch_outside test all (x ∷ xs) h = by (test x) refl h (touch_outside test all
         → (((v : Value) → any_has v all ≡ false → any_has v (map (λ t. t.interval) (map (λ t. t.touch) (filter test xs))) ≡ false) → Each (λ t. test t ≡ true → IsOutside (outside all) t.touch.number t.touch.interval) xs)
         → (test x ≡ true → IsOutside (outside all) x.touch.number x.touch.interval) × Each (λ t. test t ≡ true → IsOutside (outside all) t.touch.number t.touch.interval) xs
     by true e k rest = (
-      λ f v free. or_first (interval_has x.touch.interval v) (any_has v (map (λ t. t.interval) (map (λ t. t.touch) (filter test xs)))) (k v (was_false (any_has v all) free)),
-      rest (λ v none. or_second (interval_has x.touch.interval v) (any_has v (map (λ t. t.interval) (map (λ t. t.touch) (filter test xs)))) (k v none)),
+      λ f v free. (or_parts (interval_has x.touch.interval v) (any_has v (map (λ t. t.interval) (map (λ t. t.touch) (filter test xs)))) (k v (not-true (any_has v all) free))).0,
+      rest (λ v none. (or_parts (interval_has x.touch.interval v) (any_has v (map (λ t. t.interval) (map (λ t. t.touch) (filter test xs)))) (k v none)).1),
     )
     by false e k rest = (λ f. absurd (true≢false (sym f ∙ e)), rest k)
 
@@ -112,6 +111,6 @@ avoids_touches trace n p =
     let c : Catalog = catalog_of trace in
     let all : List Interval = map (λ t. t.interval) (touches_of c n p c.scn) in
     each_weaker (λ t. (t.touch.scn ≤ c.scn) × (((t.table == n) && within p c.scn t.touch.scn) ≡ true → IsOutside (outside all) t.touch.number t.touch.interval)) (Avoids (outside all) n p)
-    (λ t both e. both.1 (three_true (t.table == n) (nat_lt p t.touch.scn) (nat_le t.touch.scn c.scn) e (le_true t.touch.scn c.scn both.0))) c.touches
+    (λ t both e. both.1 (three_true (t.table == n) (nat_lt p t.touch.scn) (nat_le t.touch.scn c.scn) e (le-leb t.touch.scn c.scn both.0))) c.touches
     (each_two (λ t. t.touch.scn ≤ c.scn) (λ t. ((t.table == n) && within p c.scn t.touch.scn) ≡ true → IsOutside (outside all) t.touch.number t.touch.interval) c.touches
     (touches_bounded c (reached trace)) (touch_outside (λ t. (t.table == n) && within p c.scn t.touch.scn) all c.touches (λ v none. none)))

@@ -1,10 +1,11 @@
 -- Every event leaves one of the cases of Moves.
 use Rattle.std.proofs.Common.{inl, inr, suc, zero, map, ◌∙◌, arith, ap, subst, sym, ◌≡◌, ◌<◌, ◌≤◌, refl, ℕ, ℤ, Bool, true, false, true≢false, not, cond, List, [], ◌∷◌, ◌++◌, length, Option, None, Some, nat_le, nat_lt, ◌==◌}
+use Rattle.std.proofs.lemmas.Option.{none-some, same_Some}
 use Rattle.std.specs.List.{filter, filter_map, find, cons_option, position_or_len}
 use Rattle.std.specs.Prelude.{option_map, option_and_then, unwrap_or, codes, Err, Ok, Result, position, int_lt, max, nat_abs, negsuc, pos, ◌-◌}
 use Rattle.std.proofs.lemmas.Bool.{eqb-true, ltb-false, ltb-true}
 use Rattle.std.proofs.lemmas.List.{length-map}
-use Rattle.law_trace.proofs.Listed.{Each, each_append, each_filter, each_found, each_map, each_two, each_weaker, find_has, none_not_some, some_same}
+use Rattle.law_trace.proofs.Listed.{Each, each_append, each_filter, each_found, each_map, each_two, each_weaker, find_has}
 use Rattle.wh_base.specs.Lists.{change_where, first_of, first_some, has_text, head, is_empty, option_case, option_nat_same, or_refuse, same_text, unless, where_true, ◌>>=◌}
 use Rattle.wh_base.specs.Parts.{entry_bearer}
 use Rattle.wh_base.specs.Tables.{Base, Table, def_at, defs_of, table_at, table_number}
@@ -60,7 +61,7 @@ use Rattle.def_resolve.specs.Resolve.{resolve}
 use Rattle.def_journal.specs.Statements.{create_over_tables, create_over_view, nested_view, without_view, Outcome, altered, build_reads, change_named_view, fast_form_refusal, new_log, new_log_refusal, new_view, purged_or_refused, switched, unread, unregistered, with_view}
 use Rattle.def_journal.specs.Steps.{dimension_change, log_change, other_step, purge_change, session_done, show_step, statement_step, step, submit_step, submitted, table_change, view_change}
 use Rattle.law_trace.proofs.Moves.{Adds, Alters, Begins, Born, Closes, Commits, Creates, Declares, Drops, Ends, Forgets, Gone, Installs, Keeps, KeepsView, Logs, AtScn, AtView, IsPointIn, IsSameTable, Nowhere, Over, Plain, installed, Move, Moved, Opens, Purged, Purges, PurgesLogs, Switches, Takes, Withdraws, is_block, leaves, leaves_both, own, puts, stays}
-use Rattle.law_trace.proofs.Outcomes.{EachOk, bind_ok, cond_step, first_none, none_where, ok_holds, option_step, unless_bind, unless_ok, unless_then_ok}
+use Rattle.law_trace.proofs.Outcomes.{EachOk, bind_ok, cond_step, first_none, none_where, ok_holds, option_step, refused_not, unless_bind, unless_ok, unless_then_ok}
 use Rattle.law_trace.specs.Reached.{BeginsRefresh, changes_versions, is_below_zero}
 
 -- the catalog of an outcome
@@ -128,15 +129,11 @@ table_leads s x (AlterTable t) is =
 
 -- ---- logs and purges
 
-refused_not : {A E : Type 0} (o : Option A) (e : E) (x : A) → or_refuse o e ≡ Ok x → o ≡ Some x
-refused_not None e x h = cc
-refused_not (Some y) e x h = cc
-
 pub within_places : {A : Type 0} (p : A → Bool) (xs : List A) (i : ℕ) → position p xs ≡ Some i → i < length xs
 within_places p xs i e = by (nat_lt (position_or_len p xs) (length xs)) refl e
   where
     by : (b : Bool) → nat_lt (position_or_len p xs) (length xs) ≡ b → cond b (Some (position_or_len p xs)) None ≡ Some i → i < length xs
-    by true is e = let same : position_or_len p xs ≡ i = some_same (position_or_len p xs) i e in subst (λ n. n < length xs) same (ltb-true (position_or_len p xs) (length xs) is)
+    by true is e = let same : position_or_len p xs ≡ i = same_Some (position_or_len p xs) i e in subst (λ n. n < length xs) same (ltb-true (position_or_len p xs) (length xs) is)
     by false is e = cc
 
 pub named_there : (base : Base) (name : List ℕ) (n : ℕ) → the_table base name ≡ Ok n → n < length base
@@ -324,7 +321,7 @@ begun_test : (b : Begun) (then : View) → begun_view b ≡ Some then → (test 
 begun_test b then is = by b.view is
   where
     by : (o : Option ℕ) → option_and_then (view_numbered b.image) o ≡ Some then → (test : View → Bool) × (find test b.image.views ≡ Some then)
-    by None e = absurd (none_not_some then e)
+    by None e = absurd (none-some then e)
     by (Some n) e = (λ v. v.def.view == n, e)
 
 computed_holds : (P : State → Type 0) (s : State) (b : Begun) → Installed P s b → (name : List ℕ) (then : View) → begun_view b ≡ Some then → (r : Result Computed Refusal) → P (install_computed s name b then r).state

@@ -1,5 +1,6 @@
 -- Tables only come, and the names of all objects differ.
 use Rattle.std.proofs.Common.{◌≡◌, ◌≢◌, ◌∙◌, sym, ap, refl, subst, arith, ℕ, zero, suc, ◌+◌, ◌≤◌, Bool, true, false, cond, not, List, [], ◌∷◌, ◌++◌, length, map, Option, None, Some, nat_le, ◌==◌, true≢false}
+use Rattle.std.proofs.lemmas.Bool.{le-leb, or_parts}
 use Rattle.std.specs.List.{filter, find}
 use Rattle.std.specs.Prelude.{Err, Ok, Result}
 use Rattle.std.proofs.lemmas.List.{append-nil, append_assoc, map-append}
@@ -24,7 +25,7 @@ use Rattle.def_journal.specs.State.{State, next_scn, with_base}
 use Rattle.def_journal.specs.Statements.{altered, with_view}
 use Rattle.law_trace.proofs.Due.{KeepsDue, dues_keep, installs_keep, suspended}
 use Rattle.law_trace.proofs.Growing.{SamePast, dues_past, installed_past, past_bounded, reached}
-use Rattle.law_trace.proofs.Listed.{Each, Pairs, each_append, each_every, each_left, each_right, each_weaker, find_alike, le_true, or_first, or_second, pairs_across, pairs_append, pairs_from, pairs_left, pairs_right}
+use Rattle.law_trace.proofs.Listed.{Each, Pairs, each_append, each_every, each_left, each_right, each_weaker, find_alike, pairs_across, pairs_append, pairs_from, pairs_left, pairs_right}
 use Rattle.law_trace.proofs.Moves.{Adds, Alters, Commits, Creates, Declares, Drops, Forgets, Installs, Logs, Move, IsSameTable, Purges, Stays, Switches, Withdraws, installed}
 use Rattle.law_trace.proofs.Outcomes.{EachOk, bind_ok, ok_holds}
 use Rattle.law_trace.proofs.Stepping.{moves}
@@ -39,7 +40,7 @@ use Rattle.law_trace.specs.Reached.{IsSameView, catalog_of, still, stills}
 pub base_latest : (d : Catalog) (base : Base) (past : List (ℕ × Base)) → d.past ≡ (d.scn, base) ∷ past → base_now d ≡ base
 base_latest d base past is =
     ap (λ past. option_case (find (λ p. nat_le p.0 d.scn) past) [] (λ p. p.1)) is
-    ∙ ap (λ b. option_case (cond b (Some (d.scn, base)) (find (λ p. nat_le p.0 d.scn) past)) [] (λ p. p.1)) (le_true d.scn d.scn (omega arith))
+    ∙ ap (λ b. option_case (cond b (Some (d.scn, base)) (find (λ p. nat_le p.0 d.scn) past)) [] (λ p. p.1)) (le-leb d.scn d.scn (omega arith))
 
 -- without a new one it is the same at a later SCN
 pub base_later : (c d : Catalog) → d.past ≡ c.past → c.scn ≤ d.scn → Each (λ p. p.0 ≤ c.scn) c.past → base_now d ≡ base_now c
@@ -47,7 +48,7 @@ base_later c d same later bounded =
     ap (λ past. option_case (find (λ p. nat_le p.0 d.scn) past) [] (λ p. p.1)) same
     ∙ ap (λ o. option_case o [] (λ p. p.1))
     (find_alike (λ p. nat_le p.0 d.scn) (λ p. nat_le p.0 c.scn) c.past
-    (each_weaker (λ p. p.0 ≤ c.scn) (λ p. (nat_le p.0 d.scn ≡ true) × (nat_le p.0 c.scn ≡ true)) (λ p low. (le_true p.0 d.scn (omega arith), le_true p.0 c.scn low)) c.past bounded))
+    (each_weaker (λ p. p.0 ≤ c.scn) (λ p. (nat_le p.0 d.scn ≡ true) × (nat_le p.0 c.scn ≡ true)) (λ p low. (le-leb p.0 d.scn (omega arith), le-leb p.0 c.scn low)) c.past bounded))
 
 -- ---- changes of rows and partitions leave the definitions
 
@@ -199,7 +200,7 @@ differ_turned a b h same = h (sym same)
 not_taken : (name : Name) (names : List Name) → has_text names name ≡ false → Each (λ a. Differ a name) names
 not_taken name [] e = tt
 not_taken name (a ∷ names) e =
-    (λ same. true≢false (sym ((bytes_eq-Decides name a).1 (sym same)) ∙ or_first (same_text name a) (has_text names name) e), not_taken name names (or_second (same_text name a) (has_text names name) e))
+    (λ same. true≢false (sym ((bytes_eq-Decides name a).1 (sym same)) ∙ (or_parts (same_text name a) (has_text names name) e).0), not_taken name names (or_parts (same_text name a) (has_text names name) e).1)
 
 -- a name more, wherever it stands
 inserted : (front back : List Name) (name : Name) → Pairs Differ (front ++ back) → has_text (front ++ back) name ≡ false → Pairs Differ (front ++ name ∷ back)

@@ -1,12 +1,12 @@
 -- Traces one event longer, and induction over them.
 use Rattle.std.proofs.Common.{◌≡◌, ◌∙◌, sym, refl, subst, ℕ, false, List, [], ◌∷◌, ◌++◌}
+use Rattle.std.proofs.lemmas.Bool.{or_parts}
 use Rattle.std.specs.List.{fold, list_any}
 use Rattle.std.proofs.lemmas.List.{append-nil, append_assoc}
 use Rattle.std.proofs.lemmas.List.Sums.{fold-append}
 use Rattle.wh_base.specs.declared.statements.Event.{Event}
 use Rattle.def_journal.specs.Journal.{state_after, state_of}
 use Rattle.def_journal.specs.State.{State, empty_state, session_of}
-use Rattle.law_trace.proofs.Listed.{or_first, or_second}
 use Rattle.law_trace.proofs.Stepping.{moves}
 use Rattle.law_trace.specs.Laws.{SessionLaws}
 use Rattle.law_trace.specs.Reached.{is_of}
@@ -30,8 +30,8 @@ by_events P none more trace = from P more [] trace none
 events_apart : (s : State) (events : List Event) (n : ℕ) → list_any (is_of n) events ≡ false → session_of (fold state_after s events) n ≡ session_of s n
 events_apart s [] n none = refl
 events_apart s (e ∷ events) n none =
-    events_apart (state_after s e) events n (or_second (is_of n e) (list_any (is_of n) events) none)
-    ∙ (moves s e).others n (or_first (is_of n e) (list_any (is_of n) events) none)
+    events_apart (state_after s e) events n (or_parts (is_of n e) (list_any (is_of n) events) none).1
+    ∙ (moves s e).others n (or_parts (is_of n e) (list_any (is_of n) events) none).0
 
 traces_apart : (trace more : List Event) (n : ℕ) → list_any (is_of n) more ≡ false → session_of (state_of (trace ++ more)) n ≡ session_of (state_of trace) n
 traces_apart trace more n none = subst (λ s. session_of s n ≡ session_of (state_of trace) n) (sym (state_more trace more)) (events_apart (state_of trace) more n none)

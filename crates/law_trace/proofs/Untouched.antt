@@ -2,7 +2,7 @@
 use Rattle.std.proofs.Common.{◌⊎◌, inl, inr, ◌≡◌, ◌∙◌, sym, ap, refl, subst, arith, ℕ, zero, suc, ◌+◌, ◌<◌, ◌≤◌, Bool, true, false, cond, List, [], ◌∷◌, ◌++◌, length, map, None, Some, nat_le, nat_lt, ◌==◌, ◌&&◌, true≢false}
 use Rattle.std.specs.List.{filter, find, list_any}
 use Rattle.std.specs.Prelude.{Ok}
-use Rattle.std.proofs.lemmas.Bool.{eq-eqb, leb-false, lt-ltb}
+use Rattle.std.proofs.lemmas.Bool.{and_right, eq-eqb, le-leb, leb-false, lt-ltb, or_parts}
 use Rattle.std.proofs.lemmas.List.{append-nil}
 use Rattle.wh_base.specs.Lists.{option_case}
 use Rattle.wh_base.specs.Tables.{Base, Table, TableChange, table_after, table_at, with_table}
@@ -23,7 +23,7 @@ use Rattle.def_journal.specs.State.{State, next_scn, with_base}
 use Rattle.def_journal.specs.Statements.{altered}
 use Rattle.law_trace.proofs.Basing.{asked_changes, base_altered, base_committed, base_created, block_keeps, cut_by, cut_touches, made, made_of}
 use Rattle.law_trace.proofs.Growing.{SamePast, changes_bounded, dues_past, installed_past, reached, touches_bounded}
-use Rattle.law_trace.proofs.Listed.{Each, and_false, each_left, each_right, each_two, each_unmap, each_weaker, le_true, or_first, or_second}
+use Rattle.law_trace.proofs.Listed.{Each, each_left, each_right, each_two, each_unmap, each_weaker}
 use Rattle.law_trace.proofs.Moves.{Adds, Alters, Commits, Creates, Declares, Drops, Forgets, Installs, Logs, Move, Purges, Stays, Switches, Withdraws, installed}
 use Rattle.law_trace.proofs.Stepping.{moves}
 use Rattle.law_trace.proofs.Tabling.{IsBounded, base_later, bounded_of, installed_base}
@@ -178,7 +178,7 @@ commit_untouched c p ss same h =
     (λ table q low spared kept. block_leaves table (base_now c) (kept_versions c) ss p same (spared_elsewhere table q c.scn low p.changes spared)) h
 
 -- a table with the same rows, and the same in all but its row movement
-still_rows : (base : Base) (n m : ℕ) (t : Table) → t.rows ≡ (table_at base n).rows → (table_at base m).rows ≡ (table_at (with_table base n t) m).rows
+pub still_rows : (base : Base) (n m : ℕ) (t : Table) → t.rows ≡ (table_at base n).rows → (table_at base m).rows ≡ (table_at (with_table base n t) m).rows
 still_rows [] n m t same = refl
 still_rows (u ∷ us) zero zero t same = sym same
 still_rows (u ∷ us) zero (suc m) t same = refl
@@ -243,7 +243,7 @@ move_untouched s x d bounded (Withdraws name is) h = subst Untouched (sym is) h
 
 untouched_none : Untouched empty_catalog
 untouched_none table q spared kept =
-    as_same table (base_at empty_catalog q) [] (ap (λ b. option_case (cond b (Some (0, [])) None) [] (λ (p : ℕ × Base). p.1)) (le_true 0 q (omega arith)))
+    as_same table (base_at empty_catalog q) [] (ap (λ b. option_case (cond b (Some (0, [])) None) [] (λ (p : ℕ × Base). p.1)) (le-leb 0 q (omega arith)))
 
 trace_untouched : (trace : List Event) → Untouched (catalog_of trace)
 trace_untouched = by_events (λ trace. Untouched (catalog_of trace)) untouched_none step
@@ -273,8 +273,8 @@ any_filter g p (x ∷ xs) e = by (p x) refl e (any_filter g p xs)
   where
     by : (b : Bool) → p x ≡ b → list_any g (cond b (x ∷ filter p xs) (filter p xs)) ≡ false → (list_any g (filter p xs) ≡ false → Each (λ x. (g x && p x) ≡ false) xs)
         → ((g x && p x) ≡ false) × Each (λ x. (g x && p x) ≡ false) xs
-    by true is e later = (ap (λ b. b && p x) (or_first (g x) (list_any g (filter p xs)) e), later (or_second (g x) (list_any g (filter p xs)) e))
-    by false is e later = (and_false (g x) (p x) is, later e)
+    by true is e later = (ap (λ b. b && p x) (or_parts (g x) (list_any g (filter p xs)) e).0, later (or_parts (g x) (list_any g (filter p xs)) e).1)
+    by false is e later = (and_right (g x) (p x) is, later e)
 
 without_last : (a b c : Bool) → c ≡ true → (a && (b && c)) ≡ false → (a && b) ≡ false
 without_last false b c is e = refl
@@ -287,14 +287,14 @@ without_inner true a b c is e = without_last a b c is e
 spared_of : (c : Catalog) (table q : ℕ) → Each (λ n. n.scn ≤ c.scn) c.changes → changes_of c table q c.scn ≡ [] → Each (IsSpared table q) c.changes
 spared_of c table q bounded none =
     each_weaker (λ n. (n.scn ≤ c.scn) × (((n.table == table) && within q c.scn n.scn) ≡ false)) (IsSpared table q)
-    (λ n both. without_last (n.table == table) (nat_lt q n.scn) (nat_le n.scn c.scn) (le_true n.scn c.scn both.0) both.1) c.changes
+    (λ n both. without_last (n.table == table) (nat_lt q n.scn) (nat_le n.scn c.scn) (le-leb n.scn c.scn both.0) both.1) c.changes
     (each_two (λ n. n.scn ≤ c.scn) (λ n. ((n.table == table) && within q c.scn n.scn) ≡ false) c.changes bounded
     (filter_nil (λ n. (n.table == table) && within q c.scn n.scn) c.changes (map_nil (λ n. n.change) (noted_changes c table q c.scn) none)))
 
 pub kept_of : (c : Catalog) (table q : ℕ) → Each (λ t. t.touch.scn ≤ c.scn) c.touches → maintained c table q c.scn ≡ false → Each (IsKept table q) c.touches
 kept_of c table q bounded none =
     each_weaker (λ t. (t.touch.scn ≤ c.scn) × ((t.by_maintenance && ((t.table == table) && within q c.scn t.touch.scn)) ≡ false)) (IsKept table q)
-    (λ t both. without_inner t.by_maintenance (t.table == table) (nat_lt q t.touch.scn) (nat_le t.touch.scn c.scn) (le_true t.touch.scn c.scn both.0) both.1) c.touches
+    (λ t both. without_inner t.by_maintenance (t.table == table) (nat_lt q t.touch.scn) (nat_le t.touch.scn c.scn) (le-leb t.touch.scn c.scn both.0) both.1) c.touches
     (each_two (λ t. t.touch.scn ≤ c.scn) (λ t. (t.by_maintenance && ((t.table == table) && within q c.scn t.touch.scn)) ≡ false) c.touches bounded
     (any_filter (λ t. t.by_maintenance) (λ t. (t.table == table) && within q c.scn t.touch.scn) c.touches none))
 

@@ -1,5 +1,6 @@
 -- Views by their numbers: what each event leaves of them.
 use Rattle.std.proofs.Common.{◌≡◌, ◌∙◌, sym, ap, refl, subst, arith, ℕ, suc, ◌<◌, ◌≤◌, Bool, true, false, cond, not, List, [], ◌∷◌, ◌++◌, Option, None, Some, ◌==◌}
+use Rattle.std.proofs.lemmas.Option.{none-some, same_Some}
 use Rattle.std.specs.List.{filter, find, fold}
 use Rattle.std.specs.Prelude.{option_map}
 use Rattle.wh_base.specs.declared.statements.NewView.{NewView}
@@ -12,7 +13,7 @@ use Rattle.def_journal.specs.Refreshing.{change_view, refreshed_to}
 use Rattle.def_journal.specs.State.{State, empty_state}
 use Rattle.def_journal.specs.Statements.{with_view}
 use Rattle.law_trace.proofs.Due.{KeepsDue, dues_keep, installs_keep, suspended}
-use Rattle.law_trace.proofs.Listed.{Each, Pairs, each_append, each_every, each_filter, each_found, each_map, each_weaker, eq_false, find_changed, find_has, find_left, find_pushed, none_not_some, some_same, pairs_filter, pairs_map, pairs_push}
+use Rattle.law_trace.proofs.Listed.{Each, Pairs, each_append, each_every, each_filter, each_found, each_map, each_weaker, eq_false, find_changed, find_has, find_left, find_pushed, pairs_filter, pairs_map, pairs_push}
 use Rattle.law_trace.proofs.Moves.{Adds, Alters, Commits, Creates, Declares, Drops, Forgets, Installs, Logs, Move, Purges, Stays, MakesView, Over, Plain, Switches, Withdraws, installed}
 use Rattle.law_trace.proofs.Stepping.{moves}
 use Rattle.law_trace.proofs.Traces.{state_more}
@@ -150,7 +151,7 @@ trace_follows trace more = subst (λ s. Follows (catalog_of trace) s.catalog) (s
 pub same_later : (c d : Catalog) → Follows c d → (n : ℕ) (v w : View) → n ≤ c.views_made → view_numbered c n ≡ Some v → view_numbered d n ≡ Some w → IsSameView v.def w.def
 same_later c d h n v w low before after =
     let was : Earlier c n w = h.kept n w low after in
-    let one : was.view ≡ v = some_same was.view v (sym was.found ∙ before) in
+    let one : was.view ≡ v = same_Some was.view v (sym was.found ∙ before) in
     subst (λ (u : View). IsSameView u.def w.def) one was.same
 
 pub gone_later : (c d : Catalog) → Follows c d → (n : ℕ) → n ≤ c.views_made → view_numbered c n ≡ None → view_numbered d n ≡ None
@@ -158,7 +159,7 @@ gone_later c d h n low before = by (view_numbered d n) refl
   where
     by : (o : Option View) → view_numbered d n ≡ o → view_numbered d n ≡ None
     by None e = e
-    by (Some w) e = let was : Earlier c n w = h.kept n w low e in absurd (none_not_some was.view (sym before ∙ was.found))
+    by (Some w) e = let was : Earlier c n w = h.kept n w low e in absurd (none-some was.view (sym before ∙ was.found))
 
 -- ---- the numbers ascend
 

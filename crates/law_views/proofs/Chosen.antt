@@ -1,10 +1,12 @@
 -- What is so of a view that is chosen under ENFORCED.
-use Rattle.std.proofs.Common.{◌≡◌, ◌∙◌, sym, ap, refl, subst, arith, ℕ, ◌<◌, Bool, true, false, cond, List, [], ◌∷◌, length, Option, None, Some, ◌==◌, ◌&&◌}
-use Rattle.std.specs.List.{cons_option, find}
+use Rattle.std.proofs.Common.{◌≡◌, ◌∙◌, sym, ap, refl, subst, ℕ, Bool, true, false, cond, List, [], ◌∷◌, length, Option, None, Some, ◌==◌, ◌&&◌}
+use Rattle.law_trace.proofs.Defining.{each_given}
+use Rattle.std.proofs.lemmas.Option.{none-some, same_Some}
+use Rattle.std.specs.List.{find}
 use Rattle.std.specs.Ordering.{is_lt}
 use Rattle.std.specs.Prelude.{filter_map, is_none, is_some, option_and_then}
 use Rattle.std.specs.declared.cmp.Ordering.{Ordering}
-use Rattle.std.proofs.lemmas.Bool.{eq-eqb, eqb-true}
+use Rattle.std.proofs.lemmas.Bool.{and_parts, eq-eqb}
 use Rattle.wh_base.specs.Lists.{first_some, head, option_case, put_in_order, sort_onto, sorted_by, where_true}
 use Rattle.wh_base.specs.declared.queries.StarQuery.{StarQuery}
 use Rattle.wh_base.specs.declared.statements.Level.TheVariants.{Enforced}
@@ -25,9 +27,8 @@ use Rattle.def_history.specs.Staleness.{content}
 use Rattle.def_rewriting.specs.Compatible.{failing}
 use Rattle.def_rewriting.specs.Matching.{FullText, NoText, PartialText, TextMatch, match_text}
 use Rattle.def_rewriting.specs.Reaching.{reach}
-use Rattle.law_trace.proofs.Listed.{Each, Pairs, each_two, each_weaker, none_not_some, some_same}
+use Rattle.law_trace.proofs.Listed.{Each, Pairs, below_differs, each_two, each_weaker}
 use Rattle.law_trace.proofs.Viewing.{IsBefore}
-use Rattle.law_trace.proofs.Tested.{both_left, both_right}
 
 -- what a chosen view meets: it is over tables, with the query's own text, and E8 and E9 hold where no table is joined back
 pub record Meets (q : StarQuery) (text : List Token) (c : Catalog) (v : View) (back : List Back) : Type 0 where
@@ -84,14 +85,14 @@ record Fits (t : Option Requirement) (class : Class) (v : View) (x : Candidate) 
   alone : x.back ≡ []
 
 fits : (may : Bool) (t : Option Requirement) (class : Class) (v : View) (size : ℕ) (x : Candidate) → candidate_of (or_concat may (standing_unless t class [])) v size ≡ Some x → Fits t class v x
-fits may (Some r) class v size x e = absurd (none_not_some x (sym (failing_none may r v size) ∙ e))
+fits may (Some r) class v size x e = absurd (none-some x (sym (failing_none may r v size) ∙ e))
 fits may None Full v size x e =
-    let same : record { view = v; class = Full; back = []; size = size } ≡ x = some_same (record { view = v; class = Full; back = []; size = size }) x e in
+    let same : record { view = v; class = Full; back = []; size = size } ≡ x = same_Some (record { view = v; class = Full; back = []; size = size }) x e in
     record { passes = refl; full = refl; view = ap (λ (y : Candidate). y.view) same; alone = sym (ap (λ (y : Candidate). y.back) same) }
-fits may None Partial v size x e = absurd (none_not_some x e)
-fits may None General v size x e = absurd (none_not_some x e)
-fits may None JoinBack v size x e = absurd (none_not_some x e)
-fits may None Concat v size x e = absurd (none_not_some x e)
+fits may None Partial v size x e = absurd (none-some x e)
+fits may None General v size x e = absurd (none-some x e)
+fits may None JoinBack v size x e = absurd (none-some x e)
+fits may None Concat v size x e = absurd (none-some x e)
 
 -- nothing fails of E8 and E9
 time_passes : (a b : Bool) → first_some (failing requirement.E8 a ∷ failing requirement.E9 b ∷ []) ≡ None → (a ≡ true) × (b ≡ true)
@@ -118,11 +119,11 @@ module _ (c : Catalog) (q : StarQuery) (text : List Token) (enabled : Bool) wher
       by : (o : Option Class) → text_class (defs_now c) q text v ≡ o
           → candidate_of (or_concat may (option_case o (standing_unless failed (general_class back) back) (λ class. standing_unless (time_failure c q Enforced enabled [] v) class []))) v (length (content c v)) ≡ Some x
           → (v ≡ x.view) × IsMet x
-      by None is f = absurd (none_not_some x (sym (general_none may failed back v (length (content c v))) ∙ f))
+      by None is f = absurd (none-some x (sym (general_none may failed back v (length (content c v))) ∙ f))
       by (Some class) is f =
           let all : Fits (time_failure c q Enforced enabled [] v) class v x = fits may (time_failure c q Enforced enabled [] v) class v (length (content c v)) x f in
           let times = time_passes (holds_e8 c q Enforced [] v) (holds_e9 q enabled v) all.passes in
-          let rest : (v.def.rewrite && (enabled && is_none q.as_of)) ≡ true = both_right (is_some v.point) (v.def.rewrite && (enabled && is_none q.as_of)) times.1 in
+          let rest : (v.def.rewrite && (enabled && is_none q.as_of)) ≡ true = (and_parts (is_some v.point) (v.def.rewrite && (enabled && is_none q.as_of)) times.1).1 in
           let own = text_full (defs_now c) q text v v.def.beneath refl (is ∙ ap (λ (k : Class). Some k) all.full) in
           let met : Meets q text c v x.back =
           record {
@@ -130,8 +131,8 @@ module _ (c : Catalog) (q : StarQuery) (text : List Token) (enabled : Bool) wher
             full = own.1;
             alone = all.alone;
             fresh = times.0;
-            built = both_left (is_some v.point) (v.def.rewrite && (enabled && is_none q.as_of)) times.1;
-            now = both_right enabled (is_none q.as_of) (both_right v.def.rewrite (enabled && is_none q.as_of) rest);
+            built = (and_parts (is_some v.point) (v.def.rewrite && (enabled && is_none q.as_of)) times.1).0;
+            now = (and_parts enabled (is_none q.as_of) (and_parts v.def.rewrite (enabled && is_none q.as_of) rest).1).1;
           } in
           (all.view, subst (λ (w : View). Meets q text c w x.back) all.view met)
 
@@ -150,31 +151,15 @@ each_onto P cmp done [] h k = h
 each_onto P cmp done (x ∷ xs) h k = each_onto P cmp (put_in_order cmp x done) xs (each_put P cmp x done k.0 h) k.1
 
 head_holds : {A : Type 0} (P : A → Type 0) (xs : List A) (x : A) → Each P xs → head xs ≡ Some x → P x
-head_holds P [] x h e = absurd (none_not_some x e)
-head_holds P (y ∷ xs) x h e = subst P (some_same y x e) h.0
-
-each_given : {A B : Type 0} (P : A → Type 0) (Q : B → Type 0) (f : A → Option B) → ((x : A) (y : B) → P x → f x ≡ Some y → Q y) → (xs : List A) → Each P xs → Each Q (filter_map f xs)
-each_given P Q f k [] h = tt
-each_given {B = B} P Q f k (x ∷ xs) h = by (f x) refl (each_given P Q f k xs h.1)
-  where
-    by : (o : Option B) → f x ≡ o → Each Q (filter_map f xs) → Each Q (cons_option o (filter_map f xs))
-    by None is rest = rest
-    by (Some y) is rest = (k x y h.0 is, rest)
-
--- each view is found by its number
-below_differ : (m n : ℕ) → m < n → (m == n) ≡ false
-below_differ m n low = by (m == n) refl
-  where
-    by : (b : Bool) → (m == n) ≡ b → b ≡ false
-    by true e = let same : m ≡ n = eqb-true m n e in absurd (omega arith)
-    by false e = refl
+head_holds P [] x h e = absurd (none-some x e)
+head_holds P (y ∷ xs) x h e = subst P (same_Some y x e) h.0
 
 found_itself : (vs : List View) → Pairs IsBefore vs → Each (λ v. find (λ w. w.def.view == v.def.view) vs ≡ Some v) vs
 found_itself [] h = tt
 found_itself (v ∷ vs) h = (
   ap (λ b. cond b (Some v) (find (λ w. w.def.view == v.def.view) vs)) (eq-eqb v.def.view v.def.view refl),
   each_weaker (λ w. IsBefore v w × (find (λ u. u.def.view == w.def.view) vs ≡ Some w)) (λ w. find (λ u. u.def.view == w.def.view) (v ∷ vs) ≡ Some w)
-      (λ w both. ap (λ b. cond b (Some v) (find (λ u. u.def.view == w.def.view) vs)) (below_differ v.def.view w.def.view both.0) ∙ both.1) vs
+      (λ w both. ap (λ b. cond b (Some v) (find (λ u. u.def.view == w.def.view) vs)) (below_differs v.def.view w.def.view both.0) ∙ both.1) vs
       (each_two (IsBefore v) (λ w. find (λ u. u.def.view == w.def.view) vs ≡ Some w) vs h.0 (found_itself vs h.1)),
 )
 

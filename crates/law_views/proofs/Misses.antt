@@ -1,13 +1,15 @@
 -- A key of a tuple of a query stands in no interval that the query misses.
 use Rattle.std.proofs.Common.{◌≡◌, ◌∙◌, sym, ap, refl, subst, arith, ℕ, zero, suc, Bool, true, false, true≢false, not, List, [], ◌∷◌, ◌++◌, length, map, Option, None, Some, ◌&&◌, ◌||◌}
-use Rattle.std.specs.List.{flat_map, list_all}
+use Rattle.law_lists.proofs.Options.{unless_is}
+use Rattle.wh_star.proofs.Plain.{conditions_plain}
+use Rattle.std.proofs.lemmas.Bool.{and_parts, not-false}
+use Rattle.std.specs.List.{list_all}
 use Rattle.std.specs.Prelude.{Ok, Result, zip}
 use Rattle.wh_base.specs.Lists.{first_of, first_some, or_refuse, unless, unless_then, where_true, ◌>>=◌}
 use Rattle.wh_base.specs.Tables.{Table, value_at}
-use Rattle.wh_base.specs.Values.{interval_has, literal_value}
+use Rattle.wh_base.specs.Values.{interval_has}
 use Rattle.wh_base.specs.declared.columns.ColRef.{ColRef}
 use Rattle.wh_base.specs.declared.queries.ColName.{ColName}
-use Rattle.wh_base.specs.declared.queries.RawCondition.{RawCondition}
 use Rattle.wh_base.specs.declared.queries.RawCondition.TheVariants as raw
 use Rattle.wh_base.specs.declared.queries.RawQuery.{RawQuery}
 use Rattle.wh_base.specs.declared.queries.StarQuery.{StarQuery}
@@ -18,46 +20,24 @@ use Rattle.wh_base.specs.declared.tables.Kind.{Kind}
 use Rattle.wh_base.specs.declared.tables.Kind.TheVariants as kind
 use Rattle.wh_base.specs.declared.tables.TableDef.{TableDef}
 use Rattle.wh_base.specs.declared.values.Interval.{Interval}
-use Rattle.wh_base.specs.declared.values.Literal.{Literal}
-use Rattle.wh_base.specs.declared.values.Literal.TheVariants.{Dated, Number, Quoted}
+use Rattle.wh_base.specs.declared.values.Literal.TheVariants.{Number}
 use Rattle.wh_base.specs.declared.values.Value.{Value}
 use Rattle.wh_base.specs.declared.values.Value.TheVariants.{Day, Null, Num, Ratio, Text}
 use Rattle.def_effect.specs.Block.{column_refusal, fits_kind}
 use Rattle.def_meaning.specs.Joined.{conditions_true, edge_true}
 use Rattle.def_meaning.specs.Ranges.{equal_columns, misses, query_range}
 use Rattle.def_resolve.specs.Names.{Source, column_named, names_refusal, sources_of, table_refusal}
-use Rattle.def_resolve.specs.Resolve.{first_table, grouping_holds, joins_of, kinds_refusal, resolve, resolved_condition, resolved_item, star_form, star_query}
+use Rattle.def_resolve.specs.Resolve.{first_table, grouping_holds, joins_of, kinds_refusal, resolve, resolved_item, star_form, star_query}
 use Rattle.def_resolve.specs.Star.{Tree, star_of}
 use Rattle.def_restrictions.proofs.Union.{any_has, union-has}
 use Rattle.def_restrictions.specs.Intervals.{union_of}
 use Rattle.wh_star.proofs.Spread.{equal-have}
 use Rattle.wh_star.proofs.Within.{never-misses, ranges-within}
-use Rattle.wh_star.specs.Marked.{is_pair, no_pairs, without_pairs}
+use Rattle.wh_star.specs.Marked.{is_pair, without_pairs}
 use Rattle.law_trace.proofs.Basing.{none_first, none_rest, none_where}
 use Rattle.law_trace.specs.Rows.{Fits}
-use Rattle.law_trace.proofs.Tested.{both_left, both_right, both_hold, was_true}
 
 -- ---- no condition of a star form compares with a pair
-
-literal_plain : (l : Literal) → not (is_pair (literal_value l)) ≡ true
-literal_plain (Number n) = refl
-literal_plain (Quoted []) = refl
-literal_plain (Quoted (b ∷ bs)) = refl
-literal_plain (Dated n) = refl
-
-literals_plain : (ls : List Literal) → no_pairs (map literal_value ls) ≡ true
-literals_plain [] = refl
-literals_plain (l ∷ ls) = both_hold (not (is_pair (literal_value l))) (no_pairs (map literal_value ls)) (literal_plain l) (literals_plain ls)
-
-condition_plain : (column : ColName → ColRef) (c : RawCondition) → list_all without_pairs (resolved_condition column c) ≡ true
-condition_plain column (raw.Compare c op l) = both_hold (not (is_pair (literal_value l))) true (literal_plain l) refl
-condition_plain column (raw.Between c l m) =
-    both_hold (not (is_pair (literal_value l))) (not (is_pair (literal_value m)) && true) (literal_plain l)
-    (both_hold (not (is_pair (literal_value m))) true (literal_plain m) refl)
-condition_plain column (raw.Equal a b) = refl
-condition_plain column (raw.OneOf c ls) = both_hold (no_pairs (map literal_value ls)) true (literals_plain ls) refl
-condition_plain column (raw.IsNull c) = refl
-condition_plain column (raw.NotNull c) = refl
 
 all_both : {A : Type 0} (p : A → Bool) (xs ys : List A) → list_all p xs ≡ true → list_all p ys ≡ true → list_all p (xs ++ ys) ≡ true
 all_both p [] ys h k = k
@@ -67,23 +47,14 @@ all_both p (x ∷ xs) ys h k = by (p x) h (all_both p xs ys)
     by true e rest = rest e k
     by false e rest = absurd (true≢false (sym e))
 
-conditions_plain : (column : ColName → ColRef) (cs : List RawCondition) → list_all without_pairs (flat_map (resolved_condition column) cs) ≡ true
-conditions_plain column [] = refl
-conditions_plain column (c ∷ cs) =
-    all_both without_pairs (resolved_condition column c) (flat_map (resolved_condition column) cs) (condition_plain column c) (conditions_plain column cs)
-
 not_refused : {A E : Type 0} (o : Option E) (r : Result A E) (x : A) → unless_then o r ≡ Ok x → r ≡ Ok x
 not_refused None r x h = h
 not_refused (Some e) r x h = absurd (cc)
 
-kept_is : {A E : Type 0} (o : Option E) (y x : A) → unless o y ≡ Ok x → y ≡ x
-kept_is None y x h = cc
-kept_is (Some e) y x h = absurd (cc)
-
 at_tree : (P : StarQuery → Type 0) (o : Option Tree) (f : Tree → Option Refusal) (g : Tree → StarQuery) (x : StarQuery) → ((tree : Tree) → P (g tree))
     → (or_refuse o NotStar >>= (λ tree. unless (f tree) (g tree))) ≡ Ok x → P x
 at_tree P None f g x k h = absurd (cc)
-at_tree P (Some tree) f g x k h = subst P (kept_is (f tree) (g tree) x h) (k tree)
+at_tree P (Some tree) f g x k h = subst P (unless_is (f tree) (g tree) x h) (k tree)
 
 pub plain_query : (defs : List TableDef) (a : RawQuery) (q : StarQuery) → resolve defs a ≡ Ok q → list_all without_pairs q.conditions ≡ true
 plain_query defs a q h =
@@ -112,7 +83,7 @@ plain_at d columns [] k wide none = refl
 plain_at d [] (v ∷ vs) k wide none = absurd (omega arith)
 plain_at d (c ∷ columns) (v ∷ vs) zero wide none =
     let size : Option Refusal = where_true (not (fits_kind c.kind v)) (ValueDoesNotFit d.name c.name) in
-    fits_plain c.kind v (was_true (fits_kind c.kind v) (none_where (not (fits_kind c.kind v)) (ValueDoesNotFit d.name c.name) (none_first size _ (none_first (column_refusal d (c, v)) _ none))))
+    fits_plain c.kind v (not-false (fits_kind c.kind v) (none_where (not (fits_kind c.kind v)) (ValueDoesNotFit d.name c.name) (none_first size _ (none_first (column_refusal d (c, v)) _ none))))
 plain_at d (c ∷ columns) (v ∷ vs) (suc k) wide none = plain_at d columns vs k (omega arith) (none_rest (column_refusal d (c, v)) (map (column_refusal d) (zip columns vs)) none)
 
 pub plain_value : (t : Table) (vs : List Value) (k : ℕ) → Fits t vs → is_pair (value_at vs k) ≡ false
@@ -133,8 +104,8 @@ module _ (q : StarQuery) (column : ColRef) (value : ColRef → Value) (plain : l
   missed_each : (is : List Interval) → list_all (λ i. misses q column i) is ≡ true → any_has (value column) is ≡ false
   missed_each [] h = refl
   missed_each (i ∷ is) h =
-      ap (λ b. b || any_has (value column) is) (missed_one i (both_left (misses q column i) (list_all (λ i. misses q column i) is) h))
-      ∙ missed_each is (both_right (misses q column i) (list_all (λ i. misses q column i) is) h)
+      ap (λ b. b || any_has (value column) is) (missed_one i (and_parts (misses q column i) (list_all (λ i. misses q column i) is) h).0)
+      ∙ missed_each is (and_parts (misses q column i) (list_all (λ i. misses q column i) is) h).1
 
   -- where the query misses their union the key is in none of them
   pub missed_all : (is : List Interval) → list_all (λ i. misses q column i) (union_of is) ≡ true → any_has (value column) is ≡ false

@@ -1,8 +1,10 @@
 -- A view that is chosen under ENFORCED stores what the query means.
 use Rattle.std.proofs.Common.{◌≡◌, ◌∙◌, sym, ap, refl, subst, arith, ℕ, zero, suc, ◌<◌, Bool, true, false, true≢false, cond, not, List, [], ◌∷◌, ◌++◌, length, map, Option, None, Some, ◌==◌, ◌&&◌}
+use Rattle.law_lists.proofs.Each.{map_alike}
+use Rattle.law_lists.proofs.Numbers.{differs_turned}
 use Rattle.std.specs.List.{filter, list_all, list_any}
 use Rattle.std.specs.Prelude.{Ok, is_none, is_some, nat_abs, option_and_then, option_map, unwrap_or, zip, ℤ}
-use Rattle.std.proofs.lemmas.Bool.{eq-eqb, eqb-true}
+use Rattle.std.proofs.lemmas.Bool.{and_parts, eqb-true, not-true, or_parts}
 use Rattle.std.proofs.lemmas.List.{length-map}
 use Rattle.wh_base.specs.Lists.{first_of, option_case, sorted_by}
 use Rattle.wh_base.specs.Tables.{Base, Row, def_at, defs_of, row_at, table_at, value_at}
@@ -47,12 +49,11 @@ use Rattle.law_text.specs.Unordered.{unordered, without_order}
 use Rattle.law_trace.proofs.Basing.{none_each, none_first, none_rest, none_where}
 use Rattle.law_trace.proofs.Defining.{def_still}
 use Rattle.law_trace.proofs.Fitting.{trace_fits}
-use Rattle.law_trace.proofs.Listed.{Each, each_found, each_made, each_map, each_unmap, each_weaker, or_first, or_second}
+use Rattle.law_trace.proofs.Listed.{Each, each_found, each_made, each_map, each_unmap, each_weaker}
 use Rattle.law_trace.proofs.Makings.{AllFit}
 use Rattle.law_trace.proofs.Viewing.{trace_ordered}
 use Rattle.law_trace.specs.Reached.{catalog_of, still}
 use Rattle.law_trace.specs.Rows.{Fits}
-use Rattle.law_trace.proofs.Tested.{both_left, both_right, was_false}
 use Rattle.law_trace.proofs.Changes.{unmoved}
 use Rattle.law_views.proofs.Chosen.{IsChosen, chosen}
 use Rattle.law_views.proofs.Misses.{missed_all, plain_query, plain_value}
@@ -65,20 +66,9 @@ use Rattle.law_views.specs.Read.{AreRead}
 
 -- ---- tests and lists
 
-turned_false : (m n : ℕ) → (m == n) ≡ false → (n == m) ≡ false
-turned_false m n e = by (n == m) refl
-  where
-    by : (b : Bool) → (n == m) ≡ b → b ≡ false
-    by true f = absurd (true≢false (sym (eq-eqb m n (sym (eqb-true n m f))) ∙ e))
-    by false f = refl
-
-map_same : {A B : Type 0} (f g : A → B) (xs : List A) → Each (λ x. f x ≡ g x) xs → map f xs ≡ map g xs
-map_same f g [] h = refl
-map_same f g (x ∷ xs) h = λ i. h.0 i ∷ map_same f g xs h.1 i
-
 none_of : {A B : Type 0} (p : B → Bool) (f : A → B) (xs : List A) → list_any p (map f xs) ≡ false → Each (λ x. p (f x) ≡ false) xs
 none_of p f [] e = tt
-none_of p f (x ∷ xs) e = (or_first (p (f x)) (list_any p (map f xs)) e, none_of p f xs (or_second (p (f x)) (list_any p (map f xs)) e))
+none_of p f (x ∷ xs) e = ((or_parts (p (f x)) (list_any p (map f xs)) e).0, none_of p f xs (or_parts (p (f x)) (list_any p (map f xs)) e).1)
 
 zip_map : {A B : Type 0} (g : A → B) (xs : List A) → zip xs (map g xs) ≡ map (λ x. (x, g x)) xs
 zip_map g [] = refl
@@ -122,8 +112,8 @@ needed_rows r base n k all fit missed defs raw resolved =
         let value : ColRef → Value = column_value r.tables t in
         let is : value column ≡ value_at q.values k = ap (λ (x : RowAt). part_value x (Col k)) stands in
         let single : is_pair (value column) ≡ false = ap is_pair is ∙ plain_value (table_at base n) q.values k fits in
-        let edges : list_all (edge_true value) r.edges ≡ true = both_left (list_all (edge_true value) r.edges) (conditions_true value r.conditions) holds in
-        let conditions : conditions_true value r.conditions ≡ true = both_right (list_all (edge_true value) r.edges) (conditions_true value r.conditions) holds in
+        let edges : list_all (edge_true value) r.edges ≡ true = (and_parts (list_all (edge_true value) r.edges) (conditions_true value r.conditions) holds).0 in
+        let conditions : conditions_true value r.conditions ≡ true = (and_parts (list_all (edge_true value) r.edges) (conditions_true value r.conditions) holds).1 in
         let free : any_has (value column) all ≡ false = missed_all r column value (plain_query defs raw r resolved) single edges conditions all missed in
         ap (λ w. not (any_has w all)) (sym is) ∙ ap not free
 
@@ -147,10 +137,10 @@ module _ (trace : List Event) (v : View) (p : ℕ) (built : v.point ≡ Some p) 
 
   fresh_same : is_fresh (facts_of c v) ≡ true → tuples v.def.query (base_at c p) ≡ tuples v.def.query (base_now c)
   fresh_same e =
-      let none : Each (λ t. moved (known c v t) ≡ false) (table_defs v.def) = none_of moved (known c v) (table_defs v.def) (was_false (list_any moved (map (known c v) (table_defs v.def))) e) in
+      let none : Each (λ t. moved (known c v t) ≡ false) (table_defs v.def) = none_of moved (known c v) (table_defs v.def) (not-true (list_any moved (map (known c v) (table_defs v.def))) e) in
       let each : Each (λ n. moved (known c v (with_def n)) ≡ false) tables = each_unmap (λ t. moved (known c v t) ≡ false) with_def tables (subst (Each (λ t. moved (known c v t) ≡ false)) defs_are none) in
       ap (λ rows. filter (tuple_true v.def.query) (product rows))
-      (map_same (rows_at (base_at c p)) (rows_at (base_now c)) tables
+      (map_alike (rows_at (base_at c p)) (rows_at (base_now c)) tables
       (each_weaker (λ n. moved (known c v (with_def n)) ≡ false) (λ n. rows_at (base_at c p) n ≡ rows_at (base_now c) n) unchanged tables each))
 
   -- the tables but for the tracked one
@@ -170,7 +160,7 @@ module _ (trace : List Event) (v : View) (p : ℕ) (built : v.point ≡ Some p) 
     where
       unmoved_by : (n : ℕ) (b : Bool) → (not (is_tracked v.def n) && b) ≡ false → (n == t.0) ≡ false → b ≡ false
       unmoved_by n b e apart =
-          let not_tracked : is_tracked v.def n ≡ false = ap (λ o. option_case o false (λ t. t.0 == n)) is ∙ turned_false n t.0 apart in
+          let not_tracked : is_tracked v.def n ≡ false = ap (λ o. option_case o false (λ t. t.0 == n)) is ∙ differs_turned n t.0 apart in
           sym (ap (λ a. not a && b) not_tracked) ∙ e
 
   -- the tracked table has its partition key
@@ -201,7 +191,7 @@ module _ (trace : List Event) (v : View) (p : ℕ) (built : v.point ≡ Some p) 
       let own : filter keep (rows_at (base_at c p) n) ≡ filter keep (rows_at (base_now c) n) = same_kept (outside all) n key (base_at c p) (base_now c) same (tracked_now t key is keyed) fit in
       let once : Once n tables = once_in k.tables r.root r.tables r.edges n (resolve-is k.tables k.query r k.resolved).0 in
       let lists : map (fewer n keep (rows_at (base_at c p))) tables ≡ map (fewer n keep (rows_at (base_now c))) tables =
-      map_same (fewer n keep (rows_at (base_at c p))) (fewer n keep (rows_at (base_now c))) tables
+      map_alike (fewer n keep (rows_at (base_at c p))) (fewer n keep (rows_at (base_now c))) tables
       (each_weaker (λ m. (m == n) ≡ false → rows_at (base_at c p) m ≡ rows_at (base_now c) m) (λ m. fewer n keep (rows_at (base_at c p)) m ≡ fewer n keep (rows_at (base_now c)) m)
       (λ m h. fewer_same n keep own m h (m == n) refl) tables (others_still t is none)) in
       sym (fewer_tuples n keep (rows_at (base_at c p)) tables (tuple_true r) once (needed_rows r (base_at c p) n key all same.fit missed k.tables k.query k.resolved))
@@ -255,8 +245,8 @@ module _ (trace : List Event) (q : StarQuery) (v : View) (p : ℕ) (built : v.po
   by_state false true d unbuilt fresh none e = fresh_same trace v p built k fresh
   by_state false false true unbuilt fresh none e =
       by_tracked (was_none (first_part_restriction (facts_of now v)) none) (tracked v.def) refl
-      (both_left (option_case (tracked_key v.def) false (λ key. list_all (λ i. misses q key i) (stale_intervals now v))) (leaves_tracked v.def [])
-      (both_right (selects_key v.def) (option_case (tracked_key v.def) false (λ key. list_all (λ i. misses q key i) (stale_intervals now v)) && leaves_tracked v.def []) e))
+      (and_parts (option_case (tracked_key v.def) false (λ key. list_all (λ i. misses q key i) (stale_intervals now v))) (leaves_tracked v.def [])
+      (and_parts (selects_key v.def) (option_case (tracked_key v.def) false (λ key. list_all (λ i. misses q key i) (stale_intervals now v)) && leaves_tracked v.def []) e).1).0
     where
       was_none : (o : Option Restriction) → is_none o ≡ true → o ≡ None
       was_none None h = refl

@@ -2,7 +2,7 @@
 use Rattle.std.proofs.Common.{◌≡◌, refl, arith, ℕ, ◌+◌, ◌<◌, ◌≤◌, true, false, not, List, [], ◌∷◌, ◌++◌, length, map, Option, None, Some, nat_le, nat_lt}
 use Rattle.std.specs.List.{list_all}
 use Rattle.std.specs.Prelude.{ℤ, is_some, negsuc, option_and_then, pos}
-use Rattle.std.proofs.lemmas.Bool.{leb-false}
+use Rattle.std.proofs.lemmas.Bool.{and_from, and_parts, leb-false, not-false}
 use Rattle.std.proofs.lemmas.List.{length-append, length-map}
 use Rattle.wh_base.specs.Lists.{first_of, has_text, where_true}
 use Rattle.wh_base.specs.Tables.{Base, Table, defs_of, table_after, table_at, with_table}
@@ -22,7 +22,6 @@ use Rattle.law_trace.proofs.Basing.{KeepsBase, KeepsTable, base_holds, each_tabl
 use Rattle.law_trace.proofs.Listed.{all_from, each_map}
 use Rattle.law_trace.proofs.Untouched.{with_length}
 use Rattle.law_trace.specs.Reached.{catalog_of}
-use Rattle.law_trace.proofs.Tested.{both_right, both_hold, was_true}
 use Rattle.law_views.specs.Laws.{TableSizes, is_sized}
 
 -- ---- what no refusal of CREATE TABLE says
@@ -81,11 +80,11 @@ of_kind k = record { name = []; kind = new_kind k; not_null = false }
 
 sized_digits : (n : Option ℤ) → size_holds (Digits n) ≡ true → is_sized (of_kind (Digits n)) ≡ true
 sized_digits None e = refl
-sized_digits (Some (pos n)) e = both_right (nat_le 1 n) (nat_le n 15) e
+sized_digits (Some (pos n)) e = (and_parts (nat_le 1 n) (nat_le n 15) e).1
 sized_digits (Some (negsuc n)) e = absurd (cc)
 
 sized_bytes : (n : ℤ) → size_holds (Bytes n) ≡ true → is_sized (of_kind (Bytes n)) ≡ true
-sized_bytes (pos n) e = both_right (nat_le 1 n) (nat_le n 64) e
+sized_bytes (pos n) e = (and_parts (nat_le 1 n) (nat_le n 64) e).1
 sized_bytes (negsuc n) e = absurd (cc)
 
 sized_kind : (k : RawKind) → size_holds k ≡ true → is_sized (of_kind k) ≡ true
@@ -98,7 +97,7 @@ sized_column table earlier s c none =
     let named : Option Refusal = where_true (is_some (column_called earlier c.name)) (NameTaken c.name) in
     let size : Option Refusal = where_true (not (size_holds c.kind)) (ValueDoesNotFit table c.name) in
     sized_kind c.kind
-    (was_true (size_holds c.kind) (none_where (not (size_holds c.kind)) (ValueDoesNotFit table c.name) (none_first size [] (none_rest named (size ∷ []) none))))
+    (not-false (size_holds c.kind) (none_where (not (size_holds c.kind)) (ValueDoesNotFit table c.name) (none_first size [] (none_rest named (size ∷ []) none))))
 
 sized_columns : (table : List ℕ) (s : NewTable) (earlier columns : List NewColumn) → first_after (new_column_refusal table) earlier columns ≡ None
     → list_all is_sized (map (new_column s) columns) ≡ true
@@ -106,7 +105,7 @@ sized_columns table s earlier [] none = refl
 sized_columns table s earlier (c ∷ columns) none =
     let first : Option Refusal = new_column_refusal table earlier c in
     let rest : Option Refusal = first_after (new_column_refusal table) (earlier ++ c ∷ []) columns in
-    both_hold (is_sized (new_column s c)) (list_all is_sized (map (new_column s) columns))
+    and_from (is_sized (new_column s c)) (list_all is_sized (map (new_column s) columns))
     (sized_column table earlier s c (none_first first (rest ∷ []) none))
     (sized_columns table s (earlier ++ c ∷ []) columns (none_first rest [] (none_rest first (rest ∷ []) none)))
 

@@ -1,5 +1,6 @@
 -- Every view over tables is what its tokens read as, over the tables that were there when it was made, and its tables were there at its point.
 use Rattle.std.proofs.Common.{◌≡◌, ◌∙◌, sym, ap, refl, subst, arith, ℕ, suc, ◌+◌, ◌<◌, ◌≤◌, Bool, true, false, cond, not, List, [], ◌∷◌, ◌++◌, length, map, None, Some, ◌==◌, true≢false}
+use Rattle.std.proofs.lemmas.Option.{none-some, same_Some}
 use Rattle.std.specs.List.{All, find}
 use Rattle.std.specs.Option.{ForSome}
 use Rattle.std.specs.Prelude.{Ok}
@@ -26,7 +27,7 @@ use Rattle.def_journal.specs.Statements.{new_view}
 use Rattle.def_resolve.specs.Resolve.{resolve}
 use Rattle.law_trace.proofs.Due.{KeepsDue, dues_keep, suspended}
 use Rattle.law_trace.proofs.Growing.{SamePast, dues_past}
-use Rattle.law_trace.proofs.Listed.{Each, Pairs, all_from, each_append, each_filter, each_found, each_left, each_map, each_right, each_two, each_weaker, eq_false, find_has, none_not_some, some_same}
+use Rattle.law_trace.proofs.Listed.{Each, Pairs, all_from, below_differs, each_append, each_filter, each_found, each_left, each_map, each_right, each_two, each_weaker, eq_false, find_has}
 use Rattle.law_trace.proofs.Moves.{Adds, Alters, Begins, Closes, Commits, Creates, Declares, Drops, Ends, Forgets, Installs, Keeps, Logs, Move, Opens, Purges, Stays, MakesView, Over, Plain, Switches, Takes, Turn, Withdraws, installed, own}
 use Rattle.law_trace.proofs.Pointing.{trace_pointed}
 use Rattle.law_trace.proofs.Preceding.{image_laws, trace_precedes}
@@ -34,7 +35,6 @@ use Rattle.law_trace.proofs.Stepping.{moves}
 use Rattle.law_trace.proofs.Traces.{by_events, state_push}
 use Rattle.law_trace.proofs.Viewing.{IsBefore, trace_ordered}
 use Rattle.law_trace.specs.Reached.{HasBegun, IsSameView, Precedes, begun_over, catalog_of, is_of, still, stills}
-use Rattle.law_trace.proofs.Makings.{below_differs}
 use Rattle.law_views.proofs.Stepping.{Leaves, Makes, Shows, seen}
 use Rattle.law_views.proofs.Switched.{resolve-still}
 use Rattle.law_views.specs.Laws.{IsOfText, IsOfTextNow, ViewTexts}
@@ -88,7 +88,7 @@ same_point d v w same point k = retold d v w same k (λ p e. k.there p (sym poin
 refreshed_now : (d : Catalog) (scn : ℕ) (v : View) → scn ≡ d.scn → IsOfText d v → IsOfText d (refreshed_to scn v)
 refreshed_now d scn v same k =
     retold d v (refreshed_to scn v) refl k
-    (λ p e. subst (λ n. length k.tables ≤ length (base_at d n)) (sym same ∙ some_same scn p e) (all_there d v k))
+    (λ p e. subst (λ n. length k.tables ≤ length (base_at d n)) (sym same ∙ same_Some scn p e) (all_there d v k))
 
 -- refreshed to the SCN of an image that is before c, in which it was `then`
 refreshed_then : (image c d : Catalog) → Precedes image c → Precedes c d → (then w : View) → IsSameView then.def w.def → IsOfText image then → IsOfText d (refreshed_to image.scn w)
@@ -97,7 +97,7 @@ refreshed_then image c d h k then w same t =
     k.tables.1 ∙ ap (λ defs. defs ++ k.tables.0) h.tables.1 ∙ append_assoc (stills image) h.tables.0 k.tables.0 in
     let base : base_at d image.scn ≡ base_now image = k.base image.scn h.scn ∙ h.base image.scn (omega arith) in
     told image d (h.tables.0 ++ k.tables.0) grown then (refreshed_to image.scn w) same t
-    (λ p e. subst (λ n. length t.tables ≤ length (base_at d n)) (some_same image.scn p e)
+    (λ p e. subst (λ n. length t.tables ≤ length (base_at d n)) (same_Some image.scn p e)
     (subst (λ (b : Base). length t.tables ≤ length b) (sym base) (all_there image then t)))
 
 -- ---- views that are changed by their number
@@ -120,7 +120,7 @@ only_one n (v ∷ vs) now h found = by (v.def.view == n) refl found (only_one n 
     by : (b : Bool) → (v.def.view == n) ≡ b → cond b (Some v) (find (λ v. v.def.view == n) vs) ≡ Some now
         → (find (λ v. v.def.view == n) vs ≡ Some now → Each (λ v. (v.def.view == n) ≡ true → v ≡ now) vs) → Each (λ v. (v.def.view == n) ≡ true → v ≡ now) (v ∷ vs)
     by true e f rest = (
-      λ k. some_same v now f,
+      λ k. same_Some v now f,
       each_weaker (λ w. v.def.view < w.def.view) (λ w. (w.def.view == n) ≡ true → w ≡ now)
           (λ w above k. absurd (true≢false (sym k ∙ eq_false n w.def.view (subst (λ m. m < w.def.view) (eqb-true v.def.view n e) above)))) vs h.0,
     )
@@ -177,20 +177,20 @@ made_told c d h v q reads resolved =
     }
   where
     built : (b : Bool) (p : ℕ) → where_true b c.scn ≡ Some p → length (defs_now c) ≤ length (base_at d p)
-    built false p e = absurd (none_not_some p e)
+    built false p e = absurd (none-some p e)
     built true p e =
         let all : length (defs_now c) ≡ length (base_at d c.scn) = length-map (base_now c) (λ (t : Table). t.def) ∙ ap (λ (base : Base). length base) (sym (h.base c.scn (omega arith))) in
-        subst (λ n. length (defs_now c) ≤ length (base_at d n)) (some_same c.scn p e) (omega (arith, all))
+        subst (λ n. length (defs_now c) ≤ length (base_at d n)) (same_Some c.scn p e) (omega (arith, all))
 
 -- a view that is found in any way is found by its number
 found_number : (vs : List View) (test : View → Bool) (then : View) → Pairs IsBefore vs → find test vs ≡ Some then → find (λ v. v.def.view == then.def.view) vs ≡ Some then
-found_number [] test then h e = absurd (none_not_some then e)
+found_number [] test then h e = absurd (none-some then e)
 found_number (v ∷ vs) test then h e = by (test v) e (found_number vs test then h.1)
   where
     by : (b : Bool) → cond b (Some v) (find test vs) ≡ Some then → (find test vs ≡ Some then → find (λ w. w.def.view == then.def.view) vs ≡ Some then)
         → cond (v.def.view == then.def.view) (Some v) (find (λ w. w.def.view == then.def.view) vs) ≡ Some then
     by true f rest =
-        let same : v ≡ then = some_same v then f in
+        let same : v ≡ then = same_Some v then f in
         ap (λ b. cond b (Some v) (find (λ w. w.def.view == then.def.view) vs)) (eq-eqb v.def.view then.def.view (ap (λ (u : View). u.def.view) same)) ∙ ap (λ u. Some u) same
     by false f rest =
         let above : v.def.view < then.def.view = each_found (IsBefore v) test vs then h.0 f in
@@ -287,9 +287,9 @@ own_image s x y texts (Keeps reading begun) b found = texts.begun (entry_bearer 
 own_image s x y texts (Closes is) b found = texts.begun (entry_bearer x.entry) b (sym (ap (λ (z : Session). z.begun) is) ∙ found)
 own_image s x y texts (Opens command is) b found = texts.begun (entry_bearer x.entry) b (sym (ap (λ (z : Session). z.begun) is) ∙ found)
 own_image s x y texts (Begins r begins is) b found =
-    let same : begun_over s.catalog r.name ≡ b = some_same (begun_over s.catalog r.name) b (sym (ap (λ (z : Session). z.begun) is) ∙ found) in
+    let same : begun_over s.catalog r.name ≡ b = same_Some (begun_over s.catalog r.name) b (sym (ap (λ (z : Session). z.begun) is) ∙ found) in
     subst (λ (k : Begun). Each (OverTables k.image) k.image.views) same texts.now
-own_image s x y texts (Ends is) b found = absurd (none_not_some b (sym (ap (λ (z : Session). z.begun) is) ∙ found))
+own_image s x y texts (Ends is) b found = absurd (none-some b (sym (ap (λ (z : Session). z.begun) is) ∙ found))
 
 images_told : (s : State) (x : Event) → Texts s → ImagesTold (state_after s x)
 images_told s x texts n b found = by (is_of n x) refl
@@ -326,7 +326,7 @@ abbrev EachRead : List Event → Type 0
 EachRead trace = Each (λ (x : Event). IsRead x.command) trace
 
 trace_texts : (trace : List Event) → EachRead trace → Texts (state_of trace)
-trace_texts = by_events (λ trace. EachRead trace → Texts (state_of trace)) (λ read. record { now = tt; begun = λ n b found. absurd (none_not_some b found) }) step
+trace_texts = by_events (λ trace. EachRead trace → Texts (state_of trace)) (λ read. record { now = tt; begun = λ n b found. absurd (none-some b found) }) step
   where
     step : (front : List Event) (x : Event) → (EachRead front → Texts (state_of front)) → EachRead (front ++ x ∷ []) → Texts (state_of (front ++ x ∷ []))
     step front x h read =

@@ -1,7 +1,8 @@
 -- The tuples of a query don't change by rows of a table that stand in none of them.
 use Rattle.std.proofs.Common.{◌≡◌, ◌∙◌, sym, ap, refl, subst, ℕ, Bool, true, false, true≢false, cond, not, List, [], ◌∷◌, ◌++◌, map, ◌==◌, ◌&&◌, ◌||◌}
+use Rattle.law_lists.proofs.Lists.{filter-map}
 use Rattle.std.specs.List.{filter, flat_map}
-use Rattle.std.proofs.lemmas.Bool.{eqb-true}
+use Rattle.std.proofs.lemmas.Bool.{and_parts, eqb-true, not-true, or_right}
 use Rattle.std.proofs.lemmas.List.Elements.{filter-append}
 use Rattle.wh_base.specs.Lists.{has_number}
 use Rattle.wh_base.specs.declared.queries.Edge.{Edge}
@@ -10,7 +11,6 @@ use Rattle.wh_base.specs.declared.tables.TableDef.{TableDef}
 use Rattle.def_meaning.specs.Joined.{product, row_of}
 use Rattle.def_resolve.specs.Star.{IsTreeFrom, is_key_column, leads_outwards}
 use Rattle.law_trace.proofs.Listed.{Each, each_weaker}
-use Rattle.law_trace.proofs.Tested.{both_left, both_right, or_right, was_false}
 
 -- ---- a table that stands once
 
@@ -36,13 +36,13 @@ last_listed (k ∷ listed) m n e = or_right (k == n) (has_number (listed ++ m �
 -- what the first of these joins leads to isn't listed
 leads_new : (defs : List TableDef) (listed : List ℕ) (e : Edge) (es : List Edge) → leads_outwards defs listed (e ∷ es) ≡ true → has_number listed e.to.table ≡ false
 leads_new defs listed e es h =
-    let here = both_left (has_number listed e.from.table && (not (has_number listed e.to.table) && is_key_column defs e.to)) (leads_outwards defs (listed ++ e.to.table ∷ []) es) h in
-    let new = both_right (has_number listed e.from.table) (not (has_number listed e.to.table) && is_key_column defs e.to) here in
-    was_false (has_number listed e.to.table) (both_left (not (has_number listed e.to.table)) (is_key_column defs e.to) new)
+    let here = (and_parts (has_number listed e.from.table && (not (has_number listed e.to.table) && is_key_column defs e.to)) (leads_outwards defs (listed ++ e.to.table ∷ []) es) h).0 in
+    let new = (and_parts (has_number listed e.from.table) (not (has_number listed e.to.table) && is_key_column defs e.to) here).1 in
+    not-true (has_number listed e.to.table) (and_parts (not (has_number listed e.to.table)) (is_key_column defs e.to) new).0
 
 leads_rest : (defs : List TableDef) (listed : List ℕ) (e : Edge) (es : List Edge) → leads_outwards defs listed (e ∷ es) ≡ true → leads_outwards defs (listed ++ e.to.table ∷ []) es ≡ true
 leads_rest defs listed e es h =
-    both_right (has_number listed e.from.table && (not (has_number listed e.to.table) && is_key_column defs e.to)) (leads_outwards defs (listed ++ e.to.table ∷ []) es) h
+    (and_parts (has_number listed e.from.table && (not (has_number listed e.to.table) && is_key_column defs e.to)) (leads_outwards defs (listed ++ e.to.table ∷ []) es) h).1
 
 -- no join leads to a table that is listed
 not_again : (defs : List TableDef) (table : ℕ) (listed : List ℕ) (es : List Edge) → leads_outwards defs listed es ≡ true → has_number listed table ≡ true → NotIn table (map (λ e. e.to.table) es)
@@ -70,14 +70,6 @@ once_in defs root tables edges table tree =
     ((λ is. not_again defs table (root ∷ []) edges tree.1 (ap (λ b. b || false) is)), once_led defs table (root ∷ []) edges tree.1)
 
 -- ---- products
-
-filter-map : {A B : Type 0} (p : B → Bool) (f : A → B) (xs : List A) → filter p (map f xs) ≡ map f (filter (λ x. p (f x)) xs)
-filter-map p f [] = refl
-filter-map {A} {B} p f (x ∷ xs) = by (p (f x)) (filter-map p f xs)
-  where
-    by : (b : Bool) → filter p (map f xs) ≡ map f (filter (λ x. p (f x)) xs) → cond b (f x ∷ filter p (map f xs)) (filter p (map f xs)) ≡ map f (cond b (x ∷ filter (λ x. p (f x)) xs) (filter (λ x. p (f x)) xs))
-    by true rest = ap (λ ys. f x ∷ ys) rest
-    by false rest = rest
 
 filter_nothing : {A : Type 0} (p : A → Bool) (xs : List A) → ((x : A) → p x ≡ false) → filter p xs ≡ []
 filter_nothing p [] h = refl

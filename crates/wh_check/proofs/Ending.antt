@@ -1,5 +1,6 @@
 -- What comes of changes that are asked of a table, by the definitions.
 use Rattle.std.proofs.Common.{◌≡◌, ◌∙◌, sym, ap, subst, refl, arith, ℕ, suc, ◌+◌, ◌<◌, ◌≤◌, ◌^◌, Bool, true, false, cond, ◌&&◌, List, [], ◌∷◌, ◌++◌, length, map, Option, Some, None, IfSome, IsTrue, slice_get, nat_lt}
+use Rattle.std.proofs.lemmas.Option.{same_Some}
 use Rattle.std.proofs.lemmas.Bool.{lt-ltb, ltb-false, ltb-true}
 use Rattle.std.proofs.lemmas.List.{length-map}
 use Rattle.std.specs.List.{All, filter, list_all}
@@ -17,7 +18,7 @@ use Rattle.wh_check.specs.Making.{AreWhole, Fails, Goes, HaveShape, HaveShapeOnc
 use Rattle.wh_check.proofs.Final.{constraints_refusal, final_is, limits, placed_refusal, placed_refusals, whole_at}
 use Rattle.wh_check.proofs.FreshCounts.{counted, fresh_enough, fresh_then}
 use Rattle.wh_check.proofs.FreshMarks.{marks_more}
-use Rattle.wh_check.proofs.FreshSteps.{change_here, some_same}
+use Rattle.wh_check.proofs.FreshSteps.{change_here}
 use Rattle.wh_check.proofs.Looked.{if_there, live_few, rows_seen, settled_at, stored_at, table_in, table_seen}
 use Rattle.wh_check.proofs.Inserted.{all_inserted, are_named}
 use Rattle.wh_check.proofs.Made.{base_made, def_all, defs_made, is_made, length_change, moved_made, noted_made, rows_inserted, shorter_all}
@@ -72,7 +73,7 @@ pub summed : (scn at : ℕ) (s t : Stored) (cs ds : List RowChange) (fresh old :
 summed scn at s t cs ds fresh old same_scn same_table same h = (λ i. fresh + fresh_gone (sym same_scn i) (sym same_table i) (sym same i)) ∙ h ∙ ap (λ es. old + fresh_come es) same
 
 pub one_table : (tables : List Stored) (n : ℕ) (s t : Stored) → slice_get tables n ≡ Some s → slice_get tables n ≡ Some t → t ≡ s
-one_table tables n s t e f = some_same t s (sym f ∙ e)
+one_table tables n s t e f = same_Some t s (sym f ∙ e)
 
 -- the refusal where the table is known
 pub told : {r : Option Refusal} (tables : List Stored) (n : ℕ) (s : Stored) (f : Stored → Option Refusal) → slice_get tables n ≡ Some s → IfSome (slice_get tables n) (λ t. r ≡ f t) → r ≡ f s
@@ -83,7 +84,7 @@ there_after scn n tables new cs there changed = subst (λ m. n < m) (sym (ap len
 
 pub def_after : (scn n : ℕ) (tables new : List Stored) (cs : List RowChange) (s t : Stored) → slice_get tables n ≡ Some s → new ≡ with_change n (all_made scn cs) tables → slice_get new n ≡ Some t → t.def ≡ s.def
 def_after scn n tables new cs s t e changed f =
-    ap (λ (u : Stored). u.def) (some_same t (all_made scn cs s) (sym f ∙ ap (λ ts. slice_get ts n) changed ∙ change_here (all_made scn cs) tables n s e)) ∙ def_all scn s cs
+    ap (λ (u : Stored). u.def) (same_Some t (all_made scn cs s) (sym f ∙ ap (λ ts. slice_get ts n) changed ∙ change_here (all_made scn cs) tables n s e)) ∙ def_all scn s cs
 
 -- ---- changes of a table
 

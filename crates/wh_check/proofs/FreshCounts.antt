@@ -1,5 +1,7 @@
 -- The row versions that a block makes are the live ones that were born at its SCN, and what each change does to their number.
 use Rattle.std.proofs.Common.{◌≡◌, ◌∙◌, sym, ap, refl, subst, arith, ℕ, zero, suc, ◌+◌, ◌<◌, ◌≤◌, Bool, true, false, cond, ◌&&◌, ◌||◌, ◌==◌, List, [], ◌∷◌, ◌++◌, length, Option, None, Some, is_none, is_some, map, slice_get, slice_set, true≢false}
+use Rattle.std.proofs.Math.Bool.{or-false}
+use Rattle.std.proofs.lemmas.Option.{none-some, same_Some}
 use Rattle.std.proofs.lemmas.Bool.{eqb-true}
 use Rattle.std.proofs.lemmas.List.{length_push}
 use Rattle.std.proofs.lemmas.List.Sums.{sum_by-cons}
@@ -12,8 +14,7 @@ use Rattle.wh_base.specs.Tables.{Base, Places, Row, Table, TableChange, live_row
 use Rattle.wh_base.specs.declared.tables.RowAt.{RowAt}
 use Rattle.wh_base.specs.declared.values.Value.{Value}
 use Rattle.wh_check.specs.Fresh.{AreMarked, brings, fresh_at, fresh_come, fresh_gone, fresh_in, fresh_of, is_fresh, takes_fresh, was_written}
-use Rattle.wh_check.proofs.FreshMarks.{or_false}
-use Rattle.wh_check.proofs.FreshSteps.{equal_next, equal_self, none_not_some, some_same, stands, step_case, unequal}
+use Rattle.wh_check.proofs.FreshSteps.{equal_next, equal_self, stands, step_case, unequal}
 use Rattle.wh_dml.specs.Placed.{AreNext, ArePlaced, IsNext, StandsAt, all_made, made, made_of}
 use Rattle.wh_dml.specs.declared.changes.PlacedRow.{PlacedRow}
 use Rattle.wh_dml.specs.declared.changes.RowChange.{RowChange}
@@ -170,7 +171,7 @@ written_counts base changes h =
     let all = distinct_counts base [] (filter_map written_row changes) h in
     let none = rows_none base in
     let same : rows_by (λ n i. was_written changes n i || false) base ≡ rows_by (was_written changes) base =
-    rows_alike (λ n i. was_written changes n i || false) (was_written changes) base (λ n i. or_false (was_written changes n i)) in
+    rows_alike (λ n i. was_written changes n i || false) (was_written changes) base (λ n i. or-false (was_written changes n i)) in
     omega (arith, all, none, same)
 
 -- ---- the live versions of a table
@@ -274,9 +275,9 @@ filter_push p (w ∷ vs) v h = by (p w) (filter_push p vs v h)
     by false rest = rest
 
 filter_set : (p : Version → Bool) (vs : List Version) (place : ℕ) (v x : Version) → slice_get vs place ≡ Some v → p x ≡ false → length (filter p (slice_set vs place x)) + weight (p v) ≡ length (filter p vs)
-filter_set p [] place v x e h = absurd (none_not_some v e)
+filter_set p [] place v x e h = absurd (none-some v e)
 filter_set p (w ∷ vs) zero v x e h =
-    let same : p w ≡ p v = ap p (some_same w v e) in
+    let same : p w ≡ p v = ap p (same_Some w v e) in
     ap (λ b. length (cond b (x ∷ filter p vs) (filter p vs)) + weight (p v)) h ∙ by (p v) (p w) same
   where
     by : (a b : Bool) → b ≡ a → length (filter p vs) + weight a ≡ length (cond b (w ∷ filter p vs) (filter p vs))
@@ -368,10 +369,10 @@ pub fresh_table : (scn : ℕ) (s : Stored) (cs : List RowChange) → ArePlaced s
 fresh_table scn s cs placed = all_counts scn cs s s (omega arith) (λ i v less e live. e) placed.next (each_from (IsApart s) cs placed.apart)
 
 change_counts : (scn n : ℕ) (change : Stored → Stored) (tables : List Stored) (s : Stored) → slice_get tables n ≡ Some s → fresh_of scn (with_change n change tables) + fresh_in scn s ≡ fresh_of scn tables + fresh_in scn (change s)
-change_counts scn n change [] s e = absurd (none_not_some s e)
+change_counts scn n change [] s e = absurd (none-some s e)
 change_counts scn zero change (t ∷ tables) s e =
-    let here : fresh_in scn t ≡ fresh_in scn s = ap (fresh_in scn) (some_same t s e) in
-    let there : fresh_in scn (change t) ≡ fresh_in scn (change s) = ap (λ u. fresh_in scn (change u)) (some_same t s e) in
+    let here : fresh_in scn t ≡ fresh_in scn s = ap (fresh_in scn) (same_Some t s e) in
+    let there : fresh_in scn (change t) ≡ fresh_in scn (change s) = ap (λ u. fresh_in scn (change u)) (same_Some t s e) in
     let before = sum_by-cons (fresh_in scn) t tables in
     let after = sum_by-cons (fresh_in scn) (change t) tables in
     omega (arith, here, there, before, after)

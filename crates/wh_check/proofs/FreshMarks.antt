@@ -1,5 +1,7 @@
 -- A live row was made at the block's SCN exactly where the block's changes wrote it, after each change of a table.
 use Rattle.std.proofs.Common.{◌≡◌, ◌∙◌, sym, ap, refl, subst, arith, ℕ, zero, suc, ◌+◌, ◌≤◌, Bool, true, false, ◌&&◌, ◌||◌, ◌==◌, List, [], ◌∷◌, ◌++◌, Option, None, Some, is_some, slice_get, true≢false}
+use Rattle.std.proofs.Math.Bool.{or-false, or-true}
+use Rattle.std.proofs.lemmas.Option.{none-some, same_Some}
 use Rattle.std.proofs.lemmas.Bool.{eq-eqb, eqb-true}
 use Rattle.std.proofs.lemmas.List.{append-nil, append_assoc}
 use Rattle.std.proofs.lemmas.List.Elements.{filter_map-append}
@@ -10,7 +12,7 @@ use Rattle.def_effect.specs.Block.{same_place, written_row}
 use Rattle.wh_base.specs.Tables.{TableChange}
 use Rattle.wh_base.specs.declared.values.Value.{Value}
 use Rattle.wh_check.specs.Fresh.{AreMarked, change_made, changes_made, was_written}
-use Rattle.wh_check.proofs.FreshSteps.{IsTidy, change_beside, change_here, change_none, change_twice, equal_self, none_not_some, other_rowid, some_same, step_case, tidy_made, tidy_stored, unequal}
+use Rattle.wh_check.proofs.FreshSteps.{IsTidy, change_beside, change_here, change_none, change_twice, equal_self, other_rowid, step_case, tidy_made, tidy_stored, unequal}
 use Rattle.wh_dml.specs.Placed.{AreNext, ArePlaced, IsNext, all_made, made}
 use Rattle.wh_dml.specs.declared.changes.PlacedRow.{PlacedRow}
 use Rattle.wh_dml.specs.declared.changes.RowChange.{RowChange}
@@ -24,10 +26,10 @@ use Rattle.wh_table.proofs.Counting.{each_from, each_get}
 
 -- a version was born by the SCN of the last change
 pub born_by_last : (vs : List Version) (i : ℕ) (v : Version) → slice_get vs i ≡ Some v → v.born ≤ last_scn vs
-born_by_last [] i v e = absurd (none_not_some v e)
+born_by_last [] i v e = absurd (none-some v e)
 born_by_last (w ∷ vs) zero v e =
     let here : w.born ≤ changed_at w = omega arith in
-    let same : w.born ≡ v.born = ap (λ u. u.born) (some_same w v e) in
+    let same : w.born ≡ v.born = ap (λ u. u.born) (same_Some w v e) in
     omega (arith, here, same)
 born_by_last (w ∷ vs) (suc i) v e = let later = born_by_last vs i v e in omega (arith, later)
 
@@ -41,19 +43,11 @@ marks_none scn tables h = record {
 
 -- ---- what changes wrote
 
-pub or_false : (b : Bool) → (b || false) ≡ b
-or_false true = refl
-or_false false = refl
-
-or_true : (b : Bool) → (b || true) ≡ true
-or_true true = refl
-or_true false = refl
-
 last_written : (n m id rowid : ℕ) (old : Option (List Value)) (new : Option PlacedRow)
     → list_any (same_place (m, id)) (filter_map written_row (record { table = n; change = record { rowid = rowid; old = old; new = option_map (λ r. r.values) new } } ∷ []))
     ≡ (is_some new && ((m == n) && (id == rowid)))
 last_written n m id rowid old None = refl
-last_written n m id rowid old (Some r) = or_false ((m == n) && (id == rowid))
+last_written n m id rowid old (Some r) = or-false ((m == n) && (id == rowid))
 
 pub written_more : (changes : List TableChange) (n : ℕ) (c : RowChange) (m id : ℕ)
     → was_written (changes ++ change_made n c ∷ []) m id ≡ (was_written changes m id || (is_some c.new && ((m == n) && (id == c.rowid))))
@@ -65,22 +59,22 @@ written_more changes n c m id =
 -- ---- one change
 
 more_true : (a b c d : Bool) → b ≡ true → c ≡ true → d ≡ true → (a || (b && (c && d))) ≡ true
-more_true a b c d f g h = ap (λ x. a || (x && (c && d))) f ∙ ap (λ x. a || (x && d)) g ∙ ap (λ x. a || x) h ∙ or_true a
+more_true a b c d f g h = ap (λ x. a || (x && (c && d))) f ∙ ap (λ x. a || (x && d)) g ∙ ap (λ x. a || x) h ∙ or-true a
 
 more_same : (a b c d : Bool) → d ≡ false → (a || (b && (c && d))) ≡ a
 more_same a b c d h = ap (λ x. a || (b && (c && x))) h ∙ by b c
   where
     by : (b c : Bool) → (a || (b && (c && false))) ≡ a
-    by true true = or_false a
-    by true false = or_false a
-    by false c = or_false a
+    by true true = or-false a
+    by true false = or-false a
+    by false c = or-false a
 
 more_beside : (a b c d : Bool) → c ≡ false → (a || (b && (c && d))) ≡ a
 more_beside a b c d h = ap (λ x. a || (b && (x && d))) h ∙ by b
   where
     by : (b : Bool) → (a || (b && false)) ≡ a
-    by true = or_false a
-    by false = or_false a
+    by true = or-false a
+    by false = or-false a
 
 -- in the table that is changed
 mark_here : (scn n : ℕ) (s : Stored) (c : RowChange) (W : ℕ → ℕ → Bool) → IsTidy s → IsNext s c → ((place : ℕ) (v : Version) → slice_get s.versions place ≡ Some v → is_live v ≡ true → (v.born == scn) ≡ W n v.rowid)
@@ -101,7 +95,7 @@ mark_made scn tables changes n s c tidy h there marks = record {
         → (v.born == scn) ≡ (was_written changes m v.rowid || (is_some c.new && ((m == n) && (v.rowid == c.rowid))))
     by m place t v e f live true same =
         let at : n ≡ m = eqb-true n m same in
-        let is : made scn c s ≡ t = some_same (made scn c s) t (sym (change_here (made scn c) tables n s there) ∙ ap (slice_get (with_change n (made scn c) tables)) at ∙ e) in
+        let is : made scn c s ≡ t = same_Some (made scn c s) t (sym (change_here (made scn c) tables n s there) ∙ ap (slice_get (with_change n (made scn c) tables)) at ∙ e) in
         subst (λ k. (v.born == scn) ≡ (was_written changes k v.rowid || (is_some c.new && ((k == n) && (v.rowid == c.rowid))))) at
         (mark_here scn n s c (was_written changes) tidy h (λ p w g lives. marks.marked n p s w there g lives) place v (ap (λ (u : Stored). slice_get u.versions place) is ∙ f) live)
     by m place t v e f live false apart =

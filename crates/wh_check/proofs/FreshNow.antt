@@ -1,11 +1,11 @@
 -- A live row was made at the SCN of the last change exactly where it isn't seen at the SCN before.
 use Rattle.std.proofs.Common.{◌≡◌, ◌∙◌, sym, ap, refl, arith, ℕ, zero, suc, ◌-◌, ◌<◌, ◌≤◌, max, Bool, true, false, not, ◌&&◌, ◌==◌, List, [], ◌∷◌, Option, None, Some, is_none, is_some, nat_le, nat_lt, slice_get, true≢false}
+use Rattle.std.proofs.lemmas.Option.{none-some, same_Some}
 use Rattle.std.proofs.lemmas.Bool.Decides.{nat_tests}
 use Rattle.std.proofs.lemmas.Bool.{eqb-true, le-leb, lt-leb}
 use Rattle.wh_base.specs.Lists.{option_case}
 use Rattle.wh_base.specs.declared.values.Value.{Value}
 use Rattle.wh_check.specs.Fresh.{fresh_at, is_fresh}
-use Rattle.wh_check.proofs.FreshSteps.{none_not_some, some_same}
 use Rattle.wh_segment.specs.Versions.{is_visible, visible_at}
 use Rattle.wh_segment.specs.declared.version.Version.{Version}
 use Rattle.wh_table.specs.Stored.{Stored, changed_at, last_scn}
@@ -35,8 +35,8 @@ version_stale : (scn : ℕ) (v : Version) → changed_at v ≤ scn → is_visibl
 version_stale scn v h seen = sym (ap (λ b. b && (v.born == scn)) (sym (settled_row scn v h) ∙ seen))
 
 changed_by : (vs : List Version) (place : ℕ) (v : Version) → slice_get vs place ≡ Some v → changed_at v ≤ last_scn vs
-changed_by [] place v e = absurd (none_not_some v e)
-changed_by (w ∷ vs) zero v e = (let same : changed_at w ≡ changed_at v = ap changed_at (some_same w v e) in omega (arith, same))
+changed_by [] place v e = absurd (none-some v e)
+changed_by (w ∷ vs) zero v e = (let same : changed_at w ≡ changed_at v = ap changed_at (same_Some w v e) in omega (arith, same))
 changed_by (w ∷ vs) (suc place) v e = (let later = changed_by vs place v e in omega (arith, later))
 
 -- a row that is seen now was made at this SCN exactly where it isn't seen at the SCN before

@@ -1,5 +1,6 @@
 -- One change of a table: each live version after it was there before, or is the one that came.
 use Rattle.std.proofs.Common.{◌≡◌, ◌∙◌, sym, ap, refl, arith, ℕ, zero, suc, ◌+◌, ◌≤◌, Bool, true, false, List, [], ◌∷◌, ◌++◌, length, Option, None, Some, IsTrue, is_some, slice_get, slice_set, true≢false}
+use Rattle.std.proofs.lemmas.Option.{none-some, same_Some}
 use Rattle.std.proofs.lemmas.Bool.{eqb-true}
 use Rattle.std.proofs.lemmas.Bool.Decides.{nat_tests}
 use Rattle.std.specs.Option.{ForSome, IsSomeAnd}
@@ -17,12 +18,6 @@ use Rattle.wh_table.proofs.Counting.{each_from, each_get, ended_is, length_ended
 use Rattle.wh_table.proofs.Living.{differ_from, each_place, live_row}
 use Rattle.wh_table.proofs.Ordered.{Apart, Differ}
 use Rattle.wh_table.proofs.Seen.{rowid_is}
-
-pub none_not_some : {A : Type 0} (x : A) → None ≡ Some x → ⊥
-none_not_some x e = cc
-
-pub some_same : {A : Type 0} (x y : A) → Some x ≡ Some y → x ≡ y
-some_same x y e = cc
 
 -- ---- equal numbers
 
@@ -46,15 +41,15 @@ unequal n m h = by (n == m) refl
 -- ---- lists with an item replaced, or with one more
 
 pub set_case : {A : Type 0} (xs : List A) (p i : ℕ) (x y : A) (R : Type 0) → slice_get (slice_set xs p x) i ≡ Some y → (y ≡ x → R) → (slice_get xs i ≡ Some y → (p ≡ i → ⊥) → R) → R
-set_case [] p i x y R e new old = absurd (none_not_some y e)
-set_case (w ∷ ws) zero zero x y R e new old = new (sym (some_same x y e))
+set_case [] p i x y R e new old = absurd (none-some y e)
+set_case (w ∷ ws) zero zero x y R e new old = new (sym (same_Some x y e))
 set_case (w ∷ ws) zero (suc i) x y R e new old = old e (λ h. omega (arith, h))
 set_case (w ∷ ws) (suc p) zero x y R e new old = old e (λ h. omega (arith, h))
 set_case (w ∷ ws) (suc p) (suc i) x y R e new old = set_case ws p i x y R e new (λ f apart. old f (λ h. apart (omega (arith, h))))
 
 pub append_case : {A : Type 0} (xs : List A) (i : ℕ) (x y : A) (R : Type 0) → slice_get (xs ++ x ∷ []) i ≡ Some y → (i ≡ length xs → y ≡ x → R) → (slice_get xs i ≡ Some y → R) → R
-append_case [] zero x y R e new old = new refl (sym (some_same x y e))
-append_case [] (suc i) x y R e new old = absurd (none_not_some y e)
+append_case [] zero x y R e new old = new refl (sym (same_Some x y e))
+append_case [] (suc i) x y R e new old = absurd (none-some y e)
 append_case (w ∷ ws) zero x y R e new old = old e
 append_case (w ∷ ws) (suc i) x y R e new old = append_case ws i x y R e (λ at is. new (ap suc at) is) old
 
@@ -77,16 +72,16 @@ ended_dead scn w v is live = true≢false (sym live ∙ ap is_live is)
 -- ---- one change
 
 apart_from : (q p : PlacedRow) (i : ℕ) → Some q ≡ Some p → (q.place ≡ i → ⊥) → p.place ≡ i → ⊥
-apart_from q p i k apart h = apart (ap (λ x. x.place) (some_same q p k) ∙ h)
+apart_from q p i k apart h = apart (ap (λ x. x.place) (same_Some q p k) ∙ h)
 
 pub step_case : (scn rowid : ℕ) (old new : Option PlacedRow) (s : Stored) (i : ℕ) (v : Version) (R : Type 0) → ForSome old (StandsAt s rowid) → (old ≡ None → rowid ≡ s.given + 1)
     → slice_get (made_of scn old new s).versions i ≡ Some v → is_live v ≡ true → (i ≡ length s.versions → v.born ≡ scn → v.rowid ≡ rowid → is_some new ≡ true → R)
     → (slice_get s.versions i ≡ Some v → ForSome old (λ q. q.place ≡ i → ⊥) → R) → R
-step_case scn rowid None None s i v R there next e live comes stays = stays e (λ q k. absurd (none_not_some q k))
+step_case scn rowid None None s i v R there next e live comes stays = stays e (λ q k. absurd (none-some q k))
 step_case scn rowid None (Some r) s i v R there next e live comes stays =
     append_case s.versions i (born_at scn (s.given + 1) 0 r.values) v R e
     (λ at is. comes at (ap (λ u. u.born) is) (ap (λ u. u.rowid) is ∙ sym (next refl)) refl)
-    (λ f. stays f (λ q k. absurd (none_not_some q k)))
+    (λ f. stays f (λ q k. absurd (none-some q k)))
 step_case scn rowid (Some q) None s i v R there next e live comes stays =
     let w = stands s rowid q (there q refl) in
     set_case s.versions q.place i (ended scn w.0) v R (ap (λ vs. slice_get vs i) (sym (ended_is s.versions q.place scn w.0 w.1.0)) ∙ e)
@@ -108,16 +103,16 @@ pub record IsTidy (s : Stored) : Type 0 where
   pub single : (i j : ℕ) (v w : Version) → slice_get s.versions i ≡ Some v → slice_get s.versions j ≡ Some w → is_live v ≡ true → is_live w ≡ true → v.rowid ≡ w.rowid → i ≡ j
 
 places_differ : (ps : Places) (i j : ℕ) (q r : RowAt) → Differ (live_rows ps) → slice_get ps i ≡ Some (Some q) → slice_get ps j ≡ Some (Some r) → q.rowid ≡ r.rowid → i ≡ j
-places_differ [] i j q r d e f same = absurd (none_not_some (Some q) e)
-places_differ (None ∷ ps) zero j q r d e f same = absurd (none_not_some q (some_same None (Some q) e))
-places_differ (None ∷ ps) (suc i) zero q r d e f same = absurd (none_not_some r (some_same None (Some r) f))
+places_differ [] i j q r d e f same = absurd (none-some (Some q) e)
+places_differ (None ∷ ps) zero j q r d e f same = absurd (none-some q (same_Some None (Some q) e))
+places_differ (None ∷ ps) (suc i) zero q r d e f same = absurd (none-some r (same_Some None (Some r) f))
 places_differ (None ∷ ps) (suc i) (suc j) q r d e f same = ap suc (places_differ ps i j q r d e f same)
 places_differ (Some o ∷ ps) zero zero q r d e f same = refl
 places_differ (Some o ∷ ps) zero (suc j) q r d e f same =
-    let here : o ≡ q = some_same o q (some_same (Some o) (Some q) e) in
+    let here : o ≡ q = same_Some o q (same_Some (Some o) (Some q) e) in
     absurd (each_place (Apart o) ps j r f d.0 (ap (λ x. x.rowid) here ∙ same))
 places_differ (Some o ∷ ps) (suc i) zero q r d e f same =
-    let here : o ≡ r = some_same o r (some_same (Some o) (Some r) f) in
+    let here : o ≡ r = same_Some o r (same_Some (Some o) (Some r) f) in
     absurd (each_place (Apart o) ps i q e d.0 (ap (λ x. x.rowid) here ∙ sym same))
 places_differ (Some o ∷ ps) (suc i) (suc j) q r d e f same = ap suc (places_differ ps i j q r d.1 e f same)
 
@@ -176,8 +171,8 @@ tidy_made scn c s tidy h = record {
 -- ---- the tables with a change of one
 
 pub change_here : (change : Stored → Stored) (tables : List Stored) (n : ℕ) (s : Stored) → slice_get tables n ≡ Some s → slice_get (with_change n change tables) n ≡ Some (change s)
-change_here change [] n s e = absurd (none_not_some s e)
-change_here change (t ∷ tables) zero s e = ap (λ u. Some (change u)) (some_same t s e)
+change_here change [] n s e = absurd (none-some s e)
+change_here change (t ∷ tables) zero s e = ap (λ u. Some (change u)) (same_Some t s e)
 change_here change (t ∷ tables) (suc n) s e = change_here change tables n s e
 
 pub change_beside : (change : Stored → Stored) (tables : List Stored) (n m : ℕ) → (n == m) ≡ false → slice_get (with_change n change tables) m ≡ slice_get tables m

@@ -1,5 +1,6 @@
 -- What is found of a table by its number, in the tables and in the base state that they are.
 use Rattle.std.proofs.Common.{◌≡◌, ◌∙◌, sym, ap, subst, refl, arith, ℕ, zero, suc, ◌+◌, ◌<◌, ◌≤◌, Bool, true, false, cond, is_lt, List, [], ◌∷◌, length, Some, IfSome, IsTrue, slice_get, not-suc-le-zero, ◌==◌}
+use Rattle.std.proofs.lemmas.Option.{none-some, same_Some}
 use Rattle.std.proofs.lemmas.Bool.Decides.{nat_tests}
 use Rattle.std.proofs.lemmas.List.{length-map}
 use Rattle.std.specs.List.{All}
@@ -7,7 +8,6 @@ use Rattle.def_effect.specs.Block.{max_rows}
 use Rattle.wh_base.specs.Lists.{put_in_order, sort_onto}
 use Rattle.wh_base.specs.Tables.{Base, Table, defs_of as base_defs, rowid_cmp, table_at, with_table}
 use Rattle.wh_base.specs.declared.tables.RowAt.{RowAt}
-use Rattle.wh_check.proofs.FreshSteps.{none_not_some, some_same}
 use Rattle.wh_dml.specs.Sized.{AreSized}
 use Rattle.wh_load.specs.Sized.{is_sized_def}
 use Rattle.wh_table.specs.Kept.{defs_of}
@@ -38,8 +38,8 @@ suc_zero n = grind (arith, nat_tests)
 
 -- the table with this number in the base state
 pub table_seen : (at : ℕ) (tables : List Stored) (n : ℕ) (s : Stored) → slice_get tables n ≡ Some s → table_at (base_seen at tables) n ≡ seen at s
-table_seen at [] n s e = absurd (none_not_some s e)
-table_seen at (t ∷ tables) zero s e = ap (seen at) (some_same t s e)
+table_seen at [] n s e = absurd (none-some s e)
+table_seen at (t ∷ tables) zero s e = ap (seen at) (same_Some t s e)
 table_seen at (t ∷ tables) (suc n) s e = table_seen at tables n s e
 
 pub table_in : (base : Base) (n : ℕ) (t : Table) → n < length base → table_at (with_table base n t) n ≡ t

@@ -1,5 +1,6 @@
 -- What the changes of a statement make of a table: the table of the definitions with them, what is kept of it, and when it was last changed.
 use Rattle.std.proofs.Common.{◌≡◌, ◌∙◌, sym, ap, subst, refl, arith, ℕ, zero, suc, ◌+◌, ◌<◌, ◌≤◌, ◌^◌, Bool, true, false, cond, not, ◌&&◌, ◌||◌, List, [], ◌∷◌, length, map, Option, Some, None, IfSome, IsSomeAnd, IsTrue, ◌==◌, slice_get, true≢false}
+use Rattle.std.proofs.lemmas.Option.{none-some, same_Some}
 use Rattle.std.proofs.lemmas.Bool.{and_parts, eqb-true, le-leb}
 use Rattle.std.proofs.lemmas.List.{length_push}
 use Rattle.std.proofs.lemmas.List.Sums.{sum_by-cons}
@@ -12,7 +13,7 @@ use Rattle.wh_base.specs.Values.{is_small}
 use Rattle.wh_base.specs.declared.tables.Change.{Change}
 use Rattle.wh_check.specs.Fresh.{brings, changes_made, fresh_come}
 use Rattle.wh_check.specs.Making.{CanMake, inserts_in, is_small_change}
-use Rattle.wh_check.proofs.FreshSteps.{change_here, change_none, change_twice, equal_next, equal_self, none_not_some, some_same}
+use Rattle.wh_check.proofs.FreshSteps.{change_here, change_none, change_twice, equal_next, equal_self}
 use Rattle.wh_check.proofs.Looked.{get_within, if_there, suc_zero, table_seen, there_if, zero_suc}
 use Rattle.wh_dml.specs.Changes.{change_of}
 use Rattle.wh_dml.specs.Placed.{AreNext, ArePlaced, IsNext, StandsAt, all_made, made, made_of}
@@ -248,8 +249,8 @@ defs_made scn cs (s ∷ tables) (suc n) = ap (λ ds. s.def ∷ ds) (defs_made sc
 
 changed_with : (change : Stored → Stored) (tables : List Stored) (n m : ℕ) (s : Stored) → slice_get tables n ≡ Some s
     → changed_at (with_change n change tables) m ≡ cond (n == m) (last_scn (change s).versions) (changed_at tables m)
-changed_with change [] n m s e = absurd (none_not_some s e)
-changed_with change (t ∷ tables) zero zero s e = ap (λ u. last_scn (change u).versions) (some_same t s e) ∙ sym (ap (λ b. cond b (last_scn (change s).versions) (last_scn t.versions)) (equal_self 0))
+changed_with change [] n m s e = absurd (none-some s e)
+changed_with change (t ∷ tables) zero zero s e = ap (λ u. last_scn (change u).versions) (same_Some t s e) ∙ sym (ap (λ b. cond b (last_scn (change s).versions) (last_scn t.versions)) (equal_self 0))
 changed_with change (t ∷ tables) zero (suc m) s e = sym (ap (λ b. cond b (last_scn (change s).versions) (changed_at tables m)) (zero_suc m))
 changed_with change (t ∷ tables) (suc n) zero s e = sym (ap (λ b. cond b (last_scn (change s).versions) (last_scn t.versions)) (suc_zero n))
 changed_with change (t ∷ tables) (suc n) (suc m) s e = changed_with change tables n m s e ∙ sym (ap (λ b. cond b (last_scn (change s).versions) (changed_at tables m)) (equal_next n m))

@@ -1,7 +1,7 @@
 -- What changes a statement asks: whose numbers are small once no row is refused, and whether they insert rows.
 use Rattle.std.proofs.Common.{◌≡◌, ◌∙◌, sym, ap, subst, refl, arith, ℕ, zero, suc, ◌+◌, ◌≤◌, ◌<◌, ◌^◌, ◌&&◌, Bool, true, false, not, cond, is_lt, List, [], ◌∷◌, ◌++◌, length, map, Option, Some, None, IsTrue, lit<, ◌==◌, nat_lt, true≢false}
 use Rattle.std.specs.Prelude.{Err, Ok, Result, filter, find, flat_map, is_none, nat_abs, option_map, unwrap_or, zip}
-use Rattle.std.proofs.lemmas.Bool.{and_parts, ltb-true}
+use Rattle.std.proofs.lemmas.Bool.{and_from, and_parts, ltb-true}
 use Rattle.std.proofs.lemmas.Bool.Decides.{nat_tests}
 use Rattle.std.proofs.lemmas.List.{length-map}
 use Rattle.std.proofs.Math.Nat.{pow-le-pow_right}
@@ -69,9 +69,6 @@ fits_column d c v h = by (fits_kind c.kind v) refl h
     by true e h = e
     by false e h = cc
 
-both_true : (x y : Bool) → x ≡ true → y ≡ true → (x && y) ≡ true
-both_true x y h k = ap (λ b. b && y) h ∙ k
-
 -- a row with a value for each column, or for the first of them
 small_row : (d : TableDef) (cs : List ColumnDef) (vs : List Value) → length vs ≤ length cs → list_all (λ c. kind_is_sized c.kind) cs ≡ true → first_of (column_refusal d) (zip cs vs) ≡ None → list_all is_small vs ≡ true
 small_row d [] [] few h e = refl
@@ -80,7 +77,7 @@ small_row d (c ∷ cs) [] few h e = refl
 small_row d (c ∷ cs) (v ∷ vs) few h e =
     let kinds = and_parts (kind_is_sized c.kind) (list_all (λ c. kind_is_sized c.kind) cs) h in
     let none = first_none (column_refusal d (c, v)) (map (column_refusal d) (zip cs vs)) e in
-    both_true (is_small v) (list_all is_small vs) (small_value c.kind v kinds.0 (fits_column d c v none.0)) (small_row d cs vs (omega (arith, few)) kinds.1 none.1)
+    and_from (is_small v) (list_all is_small vs) (small_value c.kind v kinds.0 (fits_column d c v none.0)) (small_row d cs vs (omega (arith, few)) kinds.1 none.1)
 
 -- values that are set in these columns at the most
 abbrev AreBelow : ℕ → List (ℕ × Value) → Type 0
@@ -100,7 +97,7 @@ small_set d cs [] k m new below most h small e = refl
 small_set d [] (v ∷ vs) k m new below most h small e =
     let smalls = and_parts (is_small v) (list_all is_small vs) small in
     let old : set_or_old new (k, v) ≡ v = ap (λ o. option_case o v (λ q. q.1)) (not_set new m k below (omega (arith, most))) in
-    both_true (is_small (set_or_old new (k, v))) (list_all is_small (map (set_or_old new) (enumerate_from (k + 1) vs))) (ap is_small old ∙ smalls.0)
+    and_from (is_small (set_or_old new (k, v))) (list_all is_small (map (set_or_old new) (enumerate_from (k + 1) vs))) (ap is_small old ∙ smalls.0)
     (small_set d [] vs (k + 1) m new below (omega (arith, most)) h smalls.1 refl)
 small_set d (c ∷ cs) (v ∷ vs) k m new below most h small e =
     let smalls = and_parts (is_small v) (list_all is_small vs) small in
@@ -108,7 +105,7 @@ small_set d (c ∷ cs) (v ∷ vs) k m new below most h small e =
     let w : Value = set_or_old new (k, v) in
     let ws : List Value = map (set_or_old new) (enumerate_from (k + 1) vs) in
     let none = first_none (column_refusal d (c, w)) (map (column_refusal d) (zip cs ws)) e in
-    both_true (is_small w) (list_all is_small ws) (small_value c.kind w kinds.0 (fits_column d c w none.0)) (small_set d cs vs (k + 1) m new below (omega (arith, most)) kinds.1 smalls.1 none.1)
+    and_from (is_small w) (list_all is_small ws) (small_value c.kind w kinds.0 (fits_column d c w none.0)) (small_set d cs vs (k + 1) m new below (omega (arith, most)) kinds.1 smalls.1 none.1)
 
 -- ---- the rows of a table
 
@@ -119,12 +116,12 @@ abbrev are_small_at : List RowAt → Bool
 are_small_at rows = list_all (λ r. list_all is_small r.values) rows
 
 small_put : (x : RowAt) (ys : List RowAt) → list_all is_small x.values ≡ true → are_small_at ys ≡ true → are_small_at (put_in_order rowid_cmp x ys) ≡ true
-small_put x [] h k = both_true (list_all is_small x.values) true h refl
+small_put x [] h k = and_from (list_all is_small x.values) true h refl
 small_put x (y ∷ ys) h k = by (is_lt (rowid_cmp x y)) (small_put x ys h (and_parts (list_all is_small y.values) (are_small_at ys) k).1)
   where
     by : (b : Bool) → are_small_at (put_in_order rowid_cmp x ys) ≡ true → are_small_at (cond b (x ∷ y ∷ ys) (y ∷ put_in_order rowid_cmp x ys)) ≡ true
-    by true later = both_true (list_all is_small x.values) (are_small_at (y ∷ ys)) h k
-    by false later = both_true (list_all is_small y.values) (are_small_at (put_in_order rowid_cmp x ys)) (and_parts (list_all is_small y.values) (are_small_at ys) k).0 later
+    by true later = and_from (list_all is_small x.values) (are_small_at (y ∷ ys)) h k
+    by false later = and_from (list_all is_small y.values) (are_small_at (put_in_order rowid_cmp x ys)) (and_parts (list_all is_small y.values) (are_small_at ys) k).0 later
 
 small_sort : (done xs : List RowAt) → are_small_at done ≡ true → are_small_at xs ≡ true → are_small_at (sort_onto rowid_cmp done xs) ≡ true
 small_sort done [] h k = h
@@ -132,7 +129,7 @@ small_sort done (x ∷ xs) h k = let parts = and_parts (list_all is_small x.valu
 
 small_plain : (xs : List RowAt) → are_small_at xs ≡ true → are_small (map plain_row xs) ≡ true
 small_plain [] h = refl
-small_plain (x ∷ xs) h = let parts = and_parts (list_all is_small x.values) (are_small_at xs) h in both_true (list_all is_small x.values) (are_small (map plain_row xs)) parts.0 (small_plain xs parts.1)
+small_plain (x ∷ xs) h = let parts = and_parts (list_all is_small x.values) (are_small_at xs) h in and_from (list_all is_small x.values) (are_small (map plain_row xs)) parts.0 (small_plain xs parts.1)
 
 small_seen : (scn : ℕ) (s : Stored) → IsStored s → are_small (seen scn s).rows ≡ true
 small_seen scn s h = small_plain (sort_onto rowid_cmp [] (rows_living scn s)) (small_sort [] (rows_living scn s) refl (h.small scn))
@@ -144,7 +141,7 @@ small_picked p (r ∷ rows) h =
     by (p r) parts.0 (small_picked p rows parts.1)
   where
     by : (b : Bool) → list_all is_small r.values ≡ true → are_small (filter p rows) ≡ true → are_small (cond b (r ∷ filter p rows) (filter p rows)) ≡ true
-    by true first rest = both_true (list_all is_small r.values) (are_small (filter p rows)) first rest
+    by true first rest = and_from (list_all is_small r.values) (are_small (filter p rows)) first rest
     by false first rest = rest
 
 few_picked : (p : Row → Bool) (rows : List Row) → length (filter p rows) ≤ length rows

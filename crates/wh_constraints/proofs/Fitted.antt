@@ -1,5 +1,6 @@
 -- What holds of tables with their indexes, for each table and each of its keys and foreign keys.
 use Rattle.std.proofs.Common.{◌≡◌, ◌∙◌, sym, ap, subst, refl, arith, ℕ, zero, suc, ◌+◌, ◌<◌, ◌≤◌, ◌==◌, Bool, true, false, cond, not, ◌||◌, List, [], ◌∷◌, length, map, None, Some, lt-ltb, true≢false, slice_get, unwrap_or}
+use Rattle.std.proofs.lemmas.Option.{none-some, same_Some}
 use Rattle.std.proofs.lemmas.Bool.{eqb-true}
 use Rattle.std.specs.FinMap as fin
 use Rattle.std.specs.List.{All, filter, position, position_or_len}
@@ -8,7 +9,7 @@ use Rattle.wh_base.specs.Tables.{def_at, is_key}
 use Rattle.wh_base.specs.declared.tables.ForeignDef.{ForeignDef}
 use Rattle.wh_base.specs.declared.tables.TableDef.{TableDef}
 use Rattle.def_effect.specs.Block.{enabled, is_orphaned}
-use Rattle.wh_constraints.proofs.Indexed.{get_within, item_at, none_some, same_some}
+use Rattle.wh_constraints.proofs.Indexed.{get_within, item_at}
 use Rattle.wh_constraints.specs.Constraints.{AreIndexed, AreRight, RefersBack, TableFits, key_index, key_number}
 use Rattle.wh_dml.specs.Placed.{ArePlaced}
 use Rattle.wh_dml.specs.declared.changes.RowChange.{RowChange}
@@ -93,13 +94,13 @@ key_fits_there defs all j p i column def same h key =
 -- ---- lists that a test picks of
 
 pub each_picked : {A : Type 0} (P : A → Type 0) (q : A → Bool) (xs : List A) (k : ℕ) (x : A) → Each P (filter q xs) → slice_get xs k ≡ Some x → q x ≡ true → P x
-each_picked P q [] k x h there e = absurd (none_some x there)
+each_picked P q [] k x h there e = absurd (none-some x there)
 each_picked P q (y ∷ xs) k x h there e = by (q y) refl h k there (λ j g. each_picked P q xs j x g)
   where
     by : (b : Bool) → q y ≡ b → Each P (cond b (y ∷ filter q xs) (filter q xs)) → (k : ℕ) → slice_get (y ∷ xs) k ≡ Some x → ((j : ℕ) → Each P (filter q xs) → slice_get xs j ≡ Some x → q x ≡ true → P x) → P x
-    by true f g zero there later = subst P (same_some y x there) g.0
+    by true f g zero there later = subst P (same_Some y x there) g.0
     by true f g (suc k) there later = later k g.1 there e
-    by false f g zero there later = absurd (true≢false (sym (ap q (same_some y x there) ∙ e) ∙ f))
+    by false f g zero there later = absurd (true≢false (sym (ap q (same_Some y x there) ∙ e) ∙ f))
     by false f g (suc k) there later = later k g there e
 
 pub pick_each : {A : Type 0} (P : A → Type 0) (q : A → Bool) (xs : List A) → ((k : ℕ) (x : A) → slice_get xs k ≡ Some x → q x ≡ true → P x) → Each P (filter q xs)
@@ -115,8 +116,8 @@ each_by P f [] h = tt
 each_by P f (x ∷ xs) h = (h 0 x refl, each_by P f xs (λ k y e. h (suc k) y e))
 
 pub each_at : {A B : Type 0} (P : B → Type 0) (f : A → B) (xs : List A) (k : ℕ) (x : A) → Each P (map f xs) → slice_get xs k ≡ Some x → P (f x)
-each_at P f [] k x h e = absurd (none_some x e)
-each_at P f (y ∷ xs) zero x h e = subst (λ z. P (f z)) (same_some y x e) h.0
+each_at P f [] k x h e = absurd (none-some x e)
+each_at P f (y ∷ xs) zero x h e = subst (λ z. P (f z)) (same_Some y x e) h.0
 each_at P f (y ∷ xs) (suc k) x h e = each_at P f xs k x h.1 e
 
 -- ---- changes of one of the tables

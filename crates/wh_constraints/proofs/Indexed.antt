@@ -1,5 +1,6 @@
 -- All indexes with others of one table, and tables with a change of one.
 use Rattle.std.proofs.Common.{◌≡◌, ◌∙◌, sym, ap, refl, arith, ℕ, zero, suc, ◌<◌, true, List, [], ◌∷◌, length, Option, None, Some, is_none, not-suc-le-zero, slice_get, unwrap_or}
+use Rattle.std.proofs.lemmas.Option.{none-some, same_Some}
 use Rattle.std.specs.FinMap as fin
 use Rattle.std.specs.Prelude.{Err, Ok, Result}
 use Rattle.wh_base.specs.Lists.{option_case, ◌>>=◌}
@@ -16,16 +17,10 @@ use Rattle.wh_table.specs.Stored.{Stored, base_seen, seen}
 
 -- ---- options
 
-pub none_some : {A : Type 0} (x : A) → None ≡ Some x → ⊥
-none_some x e = cc
-
-pub same_some : {A : Type 0} (x y : A) → Some x ≡ Some y → x ≡ y
-same_some x y e = cc
-
 -- ---- items of lists
 
 pub get_within : {A : Type 0} (xs : List A) (k : ℕ) (x : A) → slice_get xs k ≡ Some x → k < length xs
-get_within [] k x e = absurd (none_some x e)
+get_within [] k x e = absurd (none-some x e)
 get_within (y ∷ xs) zero x e = omega arith
 get_within (y ∷ xs) (suc k) x e = omega (arith, get_within xs k x e)
 
@@ -90,7 +85,7 @@ made_keys n columns cs all now h = by (all_keys_changed columns cs (indexes_at a
 
 made_by : (n : ℕ) (columns : List ℕ) (cs : List RowChange) (all now : List Indexes) (clash : Option ℕ) → AnswersKeys (keys_made n columns cs all) clash now → clash ≡ None → MadeKeys n columns cs all now
 made_by n columns cs all now None h e = made_keys n columns cs all now h
-made_by n columns cs all now (Some column) h e = absurd (none_some column (sym e))
+made_by n columns cs all now (Some column) h e = absurd (none-some column (sym e))
 
 pub still_there : (n : ℕ) (columns : List ℕ) (cs : List RowChange) (all now : List Indexes) (clash : Option ℕ) → AnswersKeys (keys_made n columns cs all) clash now → clash ≡ None → n < length all
     → n < length now
@@ -109,7 +104,7 @@ same_foreign n columns cs all now clash h e within =
 
 no_number : (all : List Indexes) (n : ℕ) (v : Value) (o : Option ℕ) → o ≡ None → true ≡ is_none (fin.get (option_case o fin.empty (key_at (indexes_at all n).keys)) v)
 no_number all n v None e = sym (ap is_none (fin.get-empty value_cmp v))
-no_number all n v (Some k) e = absurd (none_some k (sym e))
+no_number all n v (Some k) e = absurd (none-some k (sym e))
 
 pub number_missing : (defs : List TableDef) (all : List Indexes) (n column : ℕ) (v : Value) (d : TableDef) → slice_get defs n ≡ Some d → key_number d column ≡ None
     → true ≡ is_none (fin.get (key_index defs all n column) v)
@@ -123,8 +118,8 @@ pub ruleset absent = (number_missing, table_missing)
 -- ---- tables with a change of one
 
 pub changed_in : (n : ℕ) (change : Stored → Stored) (tables : List Stored) (s : Stored) → slice_get tables n ≡ Some s → slice_get (with_change n change tables) n ≡ Some (change s)
-changed_in n change [] s e = absurd (none_some s e)
-changed_in zero change (t ∷ tables) s e = ap (λ u. Some (change u)) (same_some t s e)
+changed_in n change [] s e = absurd (none-some s e)
+changed_in zero change (t ∷ tables) s e = ap (λ u. Some (change u)) (same_Some t s e)
 changed_in (suc n) change (t ∷ tables) s e = changed_in n change tables s e
 
 pub changed_beside : (n m : ℕ) (change : Stored → Stored) (tables : List Stored) → (n ≡ m → ⊥) → slice_get (with_change n change tables) m ≡ slice_get tables m
@@ -145,13 +140,13 @@ defs_changed zero change (t ∷ tables) h = ap (λ d. d ∷ defs_of tables) (h t
 defs_changed (suc n) change (t ∷ tables) h = ap (λ ds. t.def ∷ ds) (defs_changed n change tables h)
 
 pub def_there : (tables : List Stored) (n : ℕ) (s : Stored) → slice_get tables n ≡ Some s → def_at (defs_of tables) n ≡ s.def
-def_there [] n s e = absurd (none_some s e)
-def_there (t ∷ tables) zero s e = ap (λ u. u.def) (same_some t s e)
+def_there [] n s e = absurd (none-some s e)
+def_there (t ∷ tables) zero s e = ap (λ u. u.def) (same_Some t s e)
 def_there (t ∷ tables) (suc n) s e = def_there tables n s e
 
 pub seen_there : (scn : ℕ) (tables : List Stored) (n : ℕ) (s : Stored) → slice_get tables n ≡ Some s → table_at (base_seen scn tables) n ≡ seen scn s
-seen_there scn [] n s e = absurd (none_some s e)
-seen_there scn (t ∷ tables) zero s e = ap (λ u. seen scn u) (same_some t s e)
+seen_there scn [] n s e = absurd (none-some s e)
+seen_there scn (t ∷ tables) zero s e = ap (λ u. seen scn u) (same_Some t s e)
 seen_there scn (t ∷ tables) (suc n) s e = seen_there scn tables n s e
 
 pub ruleset changed = (still_there, same_foreign)

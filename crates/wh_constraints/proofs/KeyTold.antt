@@ -1,12 +1,12 @@
 -- The indexes of a table's keys and foreign keys after changes, and what the former tell.
 use Rattle.std.proofs.Common.{◌≡◌, ◌∙◌, sym, ap, subst, refl, arith, ℕ, zero, suc, ◌≤◌, List, [], ◌∷◌, length, map, Option, None, Some, slice_get}
+use Rattle.std.proofs.lemmas.Option.{none-some, same_Some}
 use Rattle.std.specs.Prelude.{Err, Ok, Result}
 use Rattle.wh_base.specs.Lists.{first_of, first_some}
 use Rattle.wh_base.specs.Tables.{column_name}
 use Rattle.wh_base.specs.declared.replies.Refusal.TheVariants.{DuplicateKey}
 use Rattle.wh_base.specs.declared.tables.ForeignDef.{ForeignDef}
 use Rattle.def_effect.specs.Block.{key_refusal}
-use Rattle.wh_constraints.proofs.Indexed.{none_some, same_some}
 use Rattle.wh_dml.specs.Placed.{ArePlaced, all_made}
 use Rattle.wh_dml.specs.declared.changes.RowChange.{RowChange}
 use Rattle.law_keys.specs.Fitting.{KeyFits, ValuesFit}
@@ -41,7 +41,7 @@ more_fit : (s : Stored) (column : ℕ) (columns : List ℕ) (m : Places) (ms : L
 more_fit s column columns m ms one h = record { count = ap suc h.count; fits = at }
   where
     at : (k c : ℕ) (n : Places) → slice_get (column ∷ columns) k ≡ Some c → slice_get (m ∷ ms) k ≡ Some n → KeyFits s c n
-    at zero c n e f = subst (λ d. KeyFits s d n) (same_some column c e) (subst (λ p. KeyFits s column p) (same_some m n f) one)
+    at zero c n e f = subst (λ d. KeyFits s d n) (same_Some column c e) (subst (λ p. KeyFits s column p) (same_Some m n f) one)
     at (suc k) c n e f = h.fits k c n e f
 
 -- what there is of a result
@@ -91,7 +91,7 @@ module _ (laws : KeyLaws) (scn : ℕ) (s : Stored) (cs : List RowChange) (stored
     pub fit : KeysFit (all_made scn cs s) columns ns
 
   pub keys_told : (columns : List ℕ) (ms ns : List Places) → KeysFit s columns ms → all_keys_changed columns cs ms ≡ okay ns → KeysTold columns ns
-  keys_told [] ms ns h e = record { none = refl; fit = record { count = ap length (sym (ok_same [] ns e)); fits = λ k c n f g. absurd (none_some c f) } }
+  keys_told [] ms ns h e = record { none = refl; fit = record { count = ap length (sym (ok_same [] ns e)); fits = λ k c n f g. absurd (none-some c f) } }
   keys_told (column ∷ columns) [] ns h e = absurd (omega (arith, h.count))
   keys_told (column ∷ columns) (m ∷ ms) ns h e =
       by (keys_changed column cs m) refl (all_keys_changed columns cs ms) refl e (λ rest f. keys_told columns ms rest (rest_fit s column columns m ms h) f)
@@ -120,7 +120,7 @@ pub record ForeignFit (s : Stored) (fs : List ForeignDef) (ms : List Values) : T
 
 pub foreign_told : (laws : ForeignLaws) (scn : ℕ) (s : Stored) (cs : List RowChange) → ArePlaced scn s cs → (fs : List ForeignDef) (ms : List Values) → ForeignFit s fs ms
     → ForeignFit (all_made scn cs s) fs (all_values_changed fs cs ms)
-foreign_told laws scn s cs placed [] [] h = record { count = refl; fits = λ k f m e g. absurd (none_some f e) }
+foreign_told laws scn s cs placed [] [] h = record { count = refl; fits = λ k f m e g. absurd (none-some f e) }
 foreign_told laws scn s cs placed [] (m ∷ ms) h = absurd (omega (arith, h.count))
 foreign_told laws scn s cs placed (f ∷ fs) [] h = absurd (omega (arith, h.count))
 foreign_told laws scn s cs placed (f ∷ fs) (m ∷ ms) h =
@@ -133,6 +133,6 @@ foreign_told laws scn s cs placed (f ∷ fs) (m ∷ ms) h =
     at : ((k : ℕ) (g : ForeignDef) (n : Values) → slice_get fs k ≡ Some g → slice_get (all_values_changed fs cs ms) k ≡ Some n → ValuesFit (all_made scn cs s) g.column n)
         → (k : ℕ) (g : ForeignDef) (n : Values) → slice_get (f ∷ fs) k ≡ Some g → slice_get (all_values_changed (f ∷ fs) cs (m ∷ ms)) k ≡ Some n → ValuesFit (all_made scn cs s) g.column n
     at later zero g n e i =
-        subst (λ d. ValuesFit (all_made scn cs s) d.column n) (same_some f g e)
-        (subst (λ v. ValuesFit (all_made scn cs s) f.column v) (same_some (values_changed f.column cs m) n i) one)
+        subst (λ d. ValuesFit (all_made scn cs s) d.column n) (same_Some f g e)
+        (subst (λ v. ValuesFit (all_made scn cs s) f.column v) (same_Some (values_changed f.column cs m) n i) one)
     at later (suc k) g n e i = later k g n e i

@@ -1,6 +1,7 @@
 -- The refusals that the indexes tell are those of the definition, and the indexes are right again where there is none.
 use Rattle.std.proofs.Common.{◌≡◌, ◌∙◌, sym, ap, subst, refl, arith, ℕ, zero, suc, ◌<◌, ◌≤◌, ◌==◌, Bool, true, false, cond, not, ◌&&◌, ◌||◌, List, [], ◌∷◌, length, map, Option, None, Some, true≢false, slice_get, unwrap_or}
-use Rattle.std.proofs.lemmas.Bool.{eqb-true}
+use Rattle.std.proofs.lemmas.Option.{none-some, same_Some}
+use Rattle.std.proofs.lemmas.Bool.{eqb-true, not-true}
 use Rattle.std.proofs.lemmas.Bool.Decides.{nat_tests}
 use Rattle.std.specs.List.{All, enumerate_from, filter, list_any}
 use Rattle.std.specs.Prelude.{Err, Ok, Result}
@@ -14,7 +15,7 @@ use Rattle.wh_base.specs.declared.tables.TableDef.{TableDef}
 use Rattle.def_effect.specs.Block.{child_refusal, column_values, enabled, is_orphaned, key_refusal, parent_refusal}
 use Rattle.wh_constraints.proofs.ChildrenTold.{any_enabled, child_told, first_tables}
 use Rattle.wh_constraints.proofs.Fitted.{Setting, back_at, each_by, fits_at, held_at, pick_each, settled_at, stored_at}
-use Rattle.wh_constraints.proofs.Indexed.{at_beside, at_in, changed_beside, changed_in, def_there, defs_changed, get_within, item_at, length_changed, length_indexes, none_some, same_some, seen_there}
+use Rattle.wh_constraints.proofs.Indexed.{at_beside, at_in, changed_beside, changed_in, def_there, defs_changed, get_within, item_at, length_changed, length_indexes, seen_there}
 use Rattle.wh_constraints.proofs.KeyTold.{ForeignFit, KeysFit, KeysTold, foreign_told, keys_clash, keys_told}
 use Rattle.wh_constraints.proofs.ParentsTold.{first_parents, parent_told}
 use Rattle.wh_constraints.specs.Constraints.{AreRight, RefersBack, TableFits, Tells, child_left, children_refusal, key_index, keys_refusal, left_refusal, missing_refusal, parent_lost, parent_missing, parents_refusal, told_refusal}
@@ -43,42 +44,38 @@ both_true true true x y h = h refl refl
 both_true true false x y h = refl
 both_true false b x y h = refl
 
-not_is : (b : Bool) → not b ≡ true → b ≡ false
-not_is true e = sym e
-not_is false e = refl
-
 none_true : {A : Type 0} (b : Bool) (x : A) → where_true b x ≡ None → b ≡ false
-none_true true x e = absurd (none_some x (sym e))
+none_true true x e = absurd (none-some x (sym e))
 none_true false x e = refl
 
 -- ---- none of a list
 
 none_here : {A : Type 0} (o : Option A) (os : List (Option A)) → first_some (o ∷ os) ≡ None → o ≡ None
 none_here None os e = refl
-none_here (Some x) os e = absurd (none_some x (sym e))
+none_here (Some x) os e = absurd (none-some x (sym e))
 
 none_later : {A : Type 0} (o : Option A) (os : List (Option A)) → first_some (o ∷ os) ≡ None → first_some os ≡ None
 none_later None os e = e
-none_later (Some x) os e = absurd (none_some x (sym e))
+none_later (Some x) os e = absurd (none-some x (sym e))
 
 none_at : {A C B : Type 0} (h : A → Option B) (g : C → A) (xs : List C) (k : ℕ) (x : C) → first_of h (map g xs) ≡ None → slice_get xs k ≡ Some x → h (g x) ≡ None
-none_at h g [] k x e there = absurd (none_some x there)
-none_at h g (y ∷ xs) zero x e there = ap (λ z. h (g z)) (sym (same_some y x there)) ∙ none_here (h (g y)) (map h (map g xs)) e
+none_at h g [] k x e there = absurd (none-some x there)
+none_at h g (y ∷ xs) zero x e there = ap (λ z. h (g z)) (sym (same_Some y x there)) ∙ none_here (h (g y)) (map h (map g xs)) e
 none_at h g (y ∷ xs) (suc k) x e there = none_at h g xs k x (none_later (h (g y)) (map h (map g xs)) e) there
 
 none_picked : {A B : Type 0} (h : A → Option B) (q : A → Bool) (xs : List A) (k : ℕ) (x : A) → first_of h (filter q xs) ≡ None → slice_get xs k ≡ Some x → q x ≡ true → h x ≡ None
-none_picked h q [] k x e there picked = absurd (none_some x there)
+none_picked h q [] k x e there picked = absurd (none-some x there)
 none_picked h q (y ∷ xs) k x e there picked = by (q y) refl e k there (λ j e there. none_picked h q xs j x e there picked)
   where
     by : (b : Bool) → q y ≡ b → first_of h (cond b (y ∷ filter q xs) (filter q xs)) ≡ None → (k : ℕ) → slice_get (y ∷ xs) k ≡ Some x
         → ((j : ℕ) → first_of h (filter q xs) ≡ None → slice_get xs j ≡ Some x → h x ≡ None) → h x ≡ None
-    by true f e zero there later = ap h (sym (same_some y x there)) ∙ none_here (h y) (map h (filter q xs)) e
+    by true f e zero there later = ap h (sym (same_Some y x there)) ∙ none_here (h y) (map h (filter q xs)) e
     by true f e (suc k) there later = later k (none_later (h y) (map h (filter q xs)) e) there
-    by false f e zero there later = absurd (true≢false (sym (ap q (same_some y x there) ∙ picked) ∙ f))
+    by false f e zero there later = absurd (true≢false (sym (ap q (same_Some y x there) ∙ picked) ∙ f))
     by false f e (suc k) there later = later k e there
 
 false_picked : {A : Type 0} (p q : A → Bool) (xs : List A) (k : ℕ) (x : A) → list_any p (filter q xs) ≡ false → slice_get xs k ≡ Some x → q x ≡ true → p x ≡ false
-false_picked p q [] k x e there picked = absurd (none_some x there)
+false_picked p q [] k x e there picked = absurd (none-some x there)
 false_picked p q (y ∷ xs) k x e there picked = by (q y) refl e k there (λ j e there. false_picked p q xs j x e there picked)
   where
     or_here : (a b : Bool) → (a || b) ≡ false → a ≡ false
@@ -91,9 +88,9 @@ false_picked p q (y ∷ xs) k x e there picked = by (q y) refl e k there (λ j e
 
     by : (b : Bool) → q y ≡ b → list_any p (cond b (y ∷ filter q xs) (filter q xs)) ≡ false → (k : ℕ) → slice_get (y ∷ xs) k ≡ Some x
         → ((j : ℕ) → list_any p (filter q xs) ≡ false → slice_get xs j ≡ Some x → p x ≡ false) → p x ≡ false
-    by true f e zero there later = ap p (sym (same_some y x there)) ∙ or_here (p y) (list_any p (filter q xs)) e
+    by true f e zero there later = ap p (sym (same_Some y x there)) ∙ or_here (p y) (list_any p (filter q xs)) e
     by true f e (suc k) there later = later k (or_later (p y) (list_any p (filter q xs)) e) there
-    by false f e zero there later = absurd (true≢false (sym (ap q (same_some y x there) ∙ picked) ∙ f))
+    by false f e zero there later = absurd (true≢false (sym (ap q (same_Some y x there) ∙ picked) ∙ f))
     by false f e (suc k) there later = later k e there
 
 -- ---- the definition, at the table that changes
@@ -132,7 +129,7 @@ module _ (scn : ℕ) (tables : List Stored) (all : List Indexes) (n : ℕ) (s : 
   -- a table of those after the changes is the changed one, or one of those before
   same_one : (k : ℕ) (u : Stored) → slice_get (tables_after scn tables n cs) k ≡ Some u → n ≡ k → u ≡ all_made scn cs s
   same_one k u at e =
-      same_some u (all_made scn cs s) (sym at ∙ ap (slice_get (tables_after scn tables n cs)) (sym e) ∙ changed_in n (all_made scn cs) tables s h.there)
+      same_Some u (all_made scn cs s) (sym at ∙ ap (slice_get (tables_after scn tables n cs)) (sym e) ∙ changed_in n (all_made scn cs) tables s h.there)
 
   other_one : (k : ℕ) (u : Stored) → slice_get (tables_after scn tables n cs) k ≡ Some u → (n ≡ k → ⊥) → slice_get tables k ≡ Some u
   other_one k u at apart = sym (changed_beside n k (all_made scn cs) tables apart) ∙ at
@@ -239,7 +236,7 @@ module _ (scn : ℕ) (tables : List Stored) (all : List Indexes) (n : ℕ) (s : 
           (let same : i ≡ j = omega (arith, is) in
           both_true (not f.rely) (f.table == n) (is_orphaned (base_after scn tables n cs) (seen scn u) f)
           (parent_lost (key_index (defs_of tables) (all_changed tables n cs all ms) n f.to) (foreign_at (indexes_at (all_changed tables n cs all ms) k).foreign i) cs f)
-          (λ r b. orphan_told k u i f at e (not_is f.rely r) (eqb-true f.table n b))
+          (λ r b. orphan_told k u i f at e (not-true f.rely r) (eqb-true f.table n b))
           ∙ ap (λ m. child_left (defs_of tables) (all_changed tables n cs all ms) n cs k (m, f)) same)))
           ∙ ap (λ name. where_true (list_any (child_left (defs_of tables) (all_changed tables n cs all ms) n cs k) (enumerate_from 0 u.def.foreign)) (ChildExists name u.def.name))
           (ap (λ t. t.def.name) seen_after ∙ ap (λ d. d.name) same_def)
@@ -341,7 +338,7 @@ module _ (scn : ℕ) (tables : List Stored) (all : List Indexes) (n : ℕ) (s : 
               (each_by (λ t. All (λ g. is_orphaned (base_after scn tables n cs) t g ≡ false) (enabled t.def)) (seen scn) (tables_after scn tables n cs)
               (λ k u at. all_from (λ g. is_orphaned (base_after scn tables n cs) (seen scn u) g ≡ false) (enabled u.def)
               (pick_each (λ g. is_orphaned (base_after scn tables n cs) (seen scn u) g ≡ false) (λ g. not g.rely) u.def.foreign
-              (λ i f there picked. held k u i f at there (not_is f.rely picked)))));
+              (λ i f there picked. held k u i f at there (not-true f.rely picked)))));
           earlier = λ k u at. all_from (RefersBack (defs_of (tables_after scn tables n cs)) k) u.def.foreign
               (each_of (RefersBack (defs_of (tables_after scn tables n cs)) k) u.def.foreign
               (λ i f there. subst (λ ds. RefersBack ds k f) (sym defs_after) (back_after k u i f at there)));

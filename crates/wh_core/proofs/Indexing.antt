@@ -1,11 +1,11 @@
 -- The tables and their indexes with a table more, and without any.
-use Rattle.std.proofs.Common.{◌≡◌, ◌<◌, ◌∙◌, sym, ap, refl, subst, arith, ℕ, zero, suc, Bool, true, false, cond, List, [], ◌∷◌, ◌++◌, length, map, nat_lt, None, Option, Some}
+use Rattle.std.proofs.Common.{◌≡◌, ◌<◌, ◌∙◌, sym, ap, refl, subst, arith, ℕ, zero, suc, true, false, cond, List, [], ◌∷◌, ◌++◌, length, map, None, Option, Some}
+use Rattle.law_trace.proofs.Stepping.{within_places}
 use Rattle.std.proofs.lemmas.Option.{none-some, same_Some}
 use Rattle.std.proofs.lemmas.List.{length-append, length-map}
 use Rattle.std.proofs.lemmas.List.Elements.{All-nil}
 use Rattle.std.specs.FinMap as fin
-use Rattle.std.proofs.lemmas.Bool.{ltb-true}
-use Rattle.std.specs.List.{All, cons_option, position, position_or_len}
+use Rattle.std.specs.List.{All, cons_option}
 use Rattle.std.specs.Ordering.{nat_cmp}
 use Rattle.std.specs.Prelude.{filter_map, is_some, option_and_then, option_map, slice_get, take, unwrap_or}
 use Rattle.wh_base.specs.Lists.{same_text}
@@ -111,13 +111,6 @@ indexed_more tables all d h =
 
 -- ---- what a new table refers to is there
 
-placed_within : {A : Type 0} (p : A → Bool) (xs : List A) (i : ℕ) → position p xs ≡ Some i → i < length xs
-placed_within p xs i e = by (nat_lt (position_or_len p xs) (length xs)) refl e
-  where
-    by : (b : Bool) → nat_lt (position_or_len p xs) (length xs) ≡ b → cond b (Some (position_or_len p xs)) None ≡ Some i → i < length xs
-    by true is e = subst (λ n. n < length xs) (same_Some (position_or_len p xs) i e) (ltb-true (position_or_len p xs) (length xs) is)
-    by false is e = absurd (none-some i e)
-
 abbrev to_number : NewTable → NewForeign → ℕ → ℕ → ForeignDef
 to_number s f n to = record { column = unwrap_or (new_place s f.column) 0; table = n; to = to; rely = f.reference.rely }
 
@@ -130,7 +123,7 @@ refers_before defs s f g e = by (table_number defs f.reference.table) refl e
 
     by : (o : Option ℕ) → table_number defs f.reference.table ≡ o → option_and_then (foreign_to defs s f) o ≡ Some g → g.table < length defs
     by None is e = absurd (none-some g e)
-    by (Some n) is e = to_there n (placed_within (λ d. same_text d.name f.reference.table) defs n is) (referred (def_at defs n) f.reference) e
+    by (Some n) is e = to_there n (within_places (λ d. same_text d.name f.reference.table) defs n is) (referred (def_at defs n) f.reference) e
 
 each_given : {A B : Type 0} (Q : B → Type 0) (f : A → Option B) → ((x : A) (y : B) → f x ≡ Some y → Q y) → (xs : List A) → Each Q (filter_map f xs)
 each_given Q f k [] = tt

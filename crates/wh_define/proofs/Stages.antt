@@ -1,5 +1,6 @@
 -- The first refusal, step by step: the table's name, the counts, the lists, and the partitions.
-use Rattle.std.proofs.Common.{◌≡◌, refl, sym, arith, rules, ℕ, ◌≤◌, List, [], ◌∷◌, ◌++◌, length, Option, Some, None, Ok, Err, Bool, true, false, not, ◌&&◌}
+use Rattle.std.proofs.Common.{◌≡◌, refl, sym, arith, rules, ℕ, ◌≤◌, List, [], ◌∷◌, ◌++◌, length, Option, Some, None, Ok, Err, Bool, true, false, not}
+use Rattle.std.proofs.lemmas.Bool.{and_from, not-false}
 use Rattle.std.specs.List.{list_all}
 use Rattle.std.specs.Prelude.{nat_le, nat_lt, option_and_then, option_map}
 use Rattle.std.proofs.lemmas.Bool.Decides.{nat_tests}
@@ -34,21 +35,13 @@ not_true : {A : Type 0} (b : Bool) (x : A) → None ≡ where_true b x → b ≡
 not_true true x e = cc
 not_true false x e = refl
 
-was_true : (b : Bool) → not b ≡ false → b ≡ true
-was_true true e = refl
-was_true false e = cc
-
-both : (b c : Bool) → b ≡ true → c ≡ true → (b && c) ≡ true
-both true c e f = f
-both false c e f = e
-
 sizes_hold : (table : List ℕ) (earlier cs : List NewColumn) → None ≡ first_after (new_column_refusal table) earlier cs → list_all (λ c. size_holds c.kind) cs ≡ true
 sizes_hold table earlier [] e = refl
 sizes_hold table earlier (c ∷ cs) e =
     let here : None ≡ new_column_refusal table earlier c = none_first (new_column_refusal table earlier c) (first_after (new_column_refusal table) (earlier ++ c ∷ []) cs ∷ []) e in
     let later = none_first _ [] (none_later (new_column_refusal table earlier c) (first_after (new_column_refusal table) (earlier ++ c ∷ []) cs ∷ []) e) in
     let size = none_first _ [] (none_later _ (where_true (not (size_holds c.kind)) _ ∷ []) here) in
-    both (size_holds c.kind) (list_all (λ d. size_holds d.kind) cs) (was_true (size_holds c.kind) (not_true (not (size_holds c.kind)) _ size)) (sizes_hold table (earlier ++ c ∷ []) cs later)
+    and_from (size_holds c.kind) (list_all (λ d. size_holds d.kind) cs) (not-false (size_holds c.kind) (not_true (not (size_holds c.kind)) _ size)) (sizes_hold table (earlier ++ c ∷ []) cs later)
 
 -- the sizes are in range
 pub are_sized : (defs : List TableDef) (table : List ℕ) (columns : List NewColumn) (keys : List NewKey) (foreign : List NewForeign) → None ≡ lists_refusal defs table columns keys foreign → AreSized columns

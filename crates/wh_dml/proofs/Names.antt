@@ -1,5 +1,6 @@
 -- Names that repeat: one turn of a loop over places.
 use Rattle.std.proofs.Common.{◌≡◌, ◌∙◌, ℕ, ◌+◌, ◌<◌, List, [], ◌∷◌, ◌++◌, length, drop, take, get_or, Bool, true, false, Some, cond, refl, ap, sym, ◌||◌}
+use Rattle.std.proofs.Math.Bool.{or-false}
 use Rattle.std.proofs.lemmas.List.{drop_more, take_more}
 use Rattle.std.specs.List.{list_any}
 use Rattle.wh_base.specs.Lists.{has_text, repeated_after, same_text}
@@ -23,15 +24,11 @@ any_turned : {X : Type 0} (p : X → Bool) (done xs : List X) → list_any p (tu
 any_turned p done [] = refl
 any_turned p done (x ∷ xs) = any_turned p (x ∷ done) xs ∙ sym (swapped (p x) (list_any p xs) (list_any p done))
 
-or_false : (p : Bool) → (p || false) ≡ p
-or_false true = refl
-or_false false = refl
-
 at_place : (xs : List (List ℕ)) (i : ℕ) (x : List ℕ) → i < length xs → x ≡ get_or xs i x
     → repeated_after same_text (turned [] (take i xs)) (drop i xs) ≡ cond (has_text (take i xs) x) (Some x) (repeated_after same_text (turned [] (take (i + 1) xs)) (drop (i + 1) xs))
 at_place xs i x h e =
     rw (drop_more xs i x h, take_more xs i x h, turned-more [] (take i xs) (get_or xs i x))
-    (rw (sym e) (rw (any_turned (same_text x) [] (take i xs), or_false (list_any (same_text x) (take i xs))) refl))
+    (rw (sym e) (rw (any_turned (same_text x) [] (take i xs), or-false (list_any (same_text x) (take i xs))) refl))
 
 pub repeats_on : (xs : List (List ℕ)) (i : ℕ) (x : List ℕ) → i < length xs → x ≡ get_or xs i x → has_text (take i xs) x ≡ false
     → repeated_after same_text (turned [] (take i xs)) (drop i xs) ≡ repeated_after same_text (turned [] (take (i + 1) xs)) (drop (i + 1) xs)

@@ -1,7 +1,7 @@
 -- The changes that a statement asks fit its table one after another.
 use Rattle.std.proofs.Common.{◌≡◌, ◌∙◌, sym, ap, refl, subst, arith, ℕ, zero, suc, ◌+◌, ◌<◌, ◌≤◌, Bool, true, false, cond, List, [], ◌∷◌, ◌++◌, map, length, Option, None, Some, IsTrue, is_lt, slice_get, slice_set}
 use Rattle.std.proofs.lemmas.List.{length_push}
-use Rattle.std.proofs.lemmas.Option.{slice_get_within}
+use Rattle.std.proofs.lemmas.Option.{none-some, same_Some, slice_get_within}
 use Rattle.std.specs.List.{filter}
 use Rattle.std.specs.Option.{ForSome, IsSomeAnd}
 use Rattle.std.specs.declared.cmp.Ordering.{Ordering}
@@ -45,12 +45,6 @@ Beside p q = p.row.place ≡ q.row.place → ⊥
 abbrev pub AreBeside : List Picked → Type 0
 AreBeside [] = Unit {0}
 AreBeside (p ∷ ps) = Each (Beside p) ps × AreBeside ps
-
-some_same : {A : Type 0} (x y : A) → Some x ≡ Some y → x ≡ y
-some_same x y e = cc
-
-none_not_some : {A : Type 0} (x : A) → None ≡ Some x → ⊥
-none_not_some x e = cc
 
 -- ---- the rows at the places
 
@@ -165,7 +159,7 @@ ended_other vs place scn j h = by (slice_get vs place)
     by (Some v) = get_other vs place j (ended scn v) h
 
 get_append : (vs more : List Version) (j : ℕ) (v : Version) → slice_get vs j ≡ Some v → slice_get (vs ++ more) j ≡ Some v
-get_append [] more j v e = absurd (none_not_some v e)
+get_append [] more j v e = absurd (none-some v e)
 get_append (w ∷ vs) more zero v e = e
 get_append (w ∷ vs) more (suc j) v e = get_append vs more j v e
 
@@ -205,19 +199,19 @@ still_updated scn values s p (q ∷ ps) h k = (
 -- ---- one after another
 
 one_for : {A : Type 0} (x : A) (P : A → Type 0) → P x → ForSome (Some x) P
-one_for x P h y e = subst P (some_same x y e) h
+one_for x P h y e = subst P (same_Some x y e) h
 
 none_for : {A : Type 0} (P : A → Type 0) → ForSome None P
-none_for P y e = absurd (none_not_some y e)
+none_for P y e = absurd (none-some y e)
 
 pub deletes_next : (scn : ℕ) (s : Stored) (ps : List Picked) → Each (Stands s) ps → AreBeside ps → AreNext scn s (map deleted_of ps)
 deletes_next scn s [] h k = tt
 deletes_next scn s (p ∷ ps) h k = (
   record {
     old = one_for p.row (StandsAt s p.rowid) h.0;
-    next = λ e. absurd (none_not_some p.row (sym e));
+    next = λ e. absurd (none-some p.row (sym e));
     new = none_for (λ r. r.place ≡ length s.versions);
-    some = λ e f. none_not_some p.row (sym e);
+    some = λ e f. none-some p.row (sym e);
   },
   deletes_next scn (deleted scn p.row.place s) ps (still_deleted scn s p ps k.0 h.1) k.1,
 )
@@ -237,9 +231,9 @@ updates_next scn s sets place (p ∷ ps) at h k =
     let same = length_ended s.versions p.row.place scn found.0 found.1 in (
       record {
         old = one_for p.row (StandsAt s p.rowid) h.0;
-        next = λ e. absurd (none_not_some p.row (sym e));
+        next = λ e. absurd (none-some p.row (sym e));
         new = one_for (new_row sets place p) (λ r. r.place ≡ length s.versions) at;
-        some = λ e f. none_not_some p.row (sym e);
+        some = λ e f. none-some p.row (sym e);
       },
       updates_next scn (updated scn p.row.place (new_values sets p) s) sets (place + 1) ps (omega (arith, at, pushed, same)) (still_updated scn (new_values sets p) s p ps k.0 h.1) k.1,
     )
@@ -253,7 +247,7 @@ inserts_next scn s rowid place (vs ∷ rows) id at =
         old = none_for (StandsAt s rowid);
         next = λ e. id;
         new = one_for r (λ q. q.place ≡ length s.versions) at;
-        some = λ e f. none_not_some r (sym f);
+        some = λ e f. none-some r (sym f);
       },
       inserts_next scn (inserted scn vs s) (rowid + 1) (place + 1) rows (omega (arith, id)) (omega (arith, at, pushed)),
     )

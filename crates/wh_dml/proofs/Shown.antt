@@ -1,5 +1,6 @@
 -- The rows that conditions pick at the places of a table, and the changes of them, are those of the table of the definitions.
 use Rattle.std.proofs.Common.{◌≡◌, ◌∙◌, sym, ap, refl, arith, ℕ, zero, suc, ◌+◌, ◌≤◌, Bool, true, false, cond, List, [], ◌∷◌, map, length, None, Some, is_lt, slice_get}
+use Rattle.std.proofs.lemmas.Option.{none-some, same_Some}
 use Rattle.std.proofs.lemmas.Cmp.{nat_cmp_total, on_total}
 use Rattle.std.proofs.lemmas.List.{length-map}
 use Rattle.std.specs.List.{enumerate_from, filter}
@@ -25,20 +26,14 @@ use Rattle.wh_table.proofs.Seen.{laws_hold}
 
 -- ---- tables by number
 
-none_not_some : {A : Type 0} (x : A) → None ≡ Some x → ⊥
-none_not_some x e = cc
-
-some_same : {A : Type 0} (x y : A) → Some x ≡ Some y → x ≡ y
-some_same x y e = cc
-
 pub table_is : (at : ℕ) (tables : List Stored) (n : ℕ) (s : Stored) → slice_get tables n ≡ Some s → table_at (base_seen at tables) n ≡ seen at s
-table_is at [] n s e = absurd (none_not_some s e)
-table_is at (t ∷ tables) zero s e = ap (seen at) (some_same t s e)
+table_is at [] n s e = absurd (none-some s e)
+table_is at (t ∷ tables) zero s e = ap (seen at) (same_Some t s e)
 table_is at (t ∷ tables) (suc n) s e = table_is at tables n s e
 
 pub places_are : (at : ℕ) (tables : List Stored) (n : ℕ) (s : Stored) → slice_get tables n ≡ Some s → places_of (tables_at at tables) n ≡ places_at at s
-places_are at [] n s e = absurd (none_not_some s e)
-places_are at (t ∷ tables) zero s e = ap (places_at at) (some_same t s e)
+places_are at [] n s e = absurd (none-some s e)
+places_are at (t ∷ tables) zero s e = ap (places_at at) (same_Some t s e)
 places_are at (t ∷ tables) (suc n) s e = places_are at tables n s e
 
 -- ---- a map of what is in order

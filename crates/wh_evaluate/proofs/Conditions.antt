@@ -1,5 +1,6 @@
 -- What a query that can be evaluated meets, and what its tuples are.
 use Rattle.std.proofs.Common.{◌≡◌, ◌∙◌, sym, ap, subst, refl, arith, ℕ, zero, suc, ◌+◌, Bool, true, List, [], ◌∷◌, ◌<◌, ◌≤◌, Option, Some, None, length, map, get_or}
+use Rattle.std.proofs.lemmas.Bool.{and_from, and_parts}
 use Rattle.std.proofs.lemmas.List.{length-map}
 use Rattle.std.proofs.lemmas.List.Elements.{All-cons, All-head, All-tail}
 use Rattle.std.proofs.lemmas.Option.{slice_get-map}
@@ -21,7 +22,7 @@ use Rattle.def_resolve.proofs.Trees.{resolve-is}
 use Rattle.def_resolve.specs.Star.{is_key_column}
 use Rattle.wh_evaluate.proofs.Placed.{mark-small, placed-marked}
 use Rattle.wh_evaluate.proofs.Resolved.{IsPlain, far-keys, key-there, resolve-plain}
-use Rattle.wh_evaluate.proofs.Filters.{all-both, all-filter, all-product, all-sorted, and_true, both_true, filter-shorter, filter_map-shorter}
+use Rattle.wh_evaluate.proofs.Filters.{all-both, all-filter, all-product, all-sorted, filter-shorter, filter_map-shorter}
 use Rattle.wh_evaluate.proofs.Unique.{listed-unique, unique-key}
 use Rattle.wh_evaluate.specs.Shown.{CanEvaluate, HasKeys, Shows, answer_of, are_numbered, are_placed, stored_of}
 use Rattle.wh_group.specs.Tallies.{AreSmallTuples, HasSmallAggs}
@@ -48,8 +49,8 @@ each-table P (t ∷ ts) (suc n) all none = each-table P ts n (All-tail P t ts al
 
 each-tested : (p : Table → Bool) (base : Base) (n : ℕ) → list_all p base ≡ true → p empty_table ≡ true → p (table_at base n) ≡ true
 each-tested p [] n all none = none
-each-tested p (t ∷ ts) zero all none = (both_true (p t) (list_all p ts) all).0
-each-tested p (t ∷ ts) (suc n) all none = each-tested p ts n (both_true (p t) (list_all p ts) all).1 none
+each-tested p (t ∷ ts) zero all none = (and_parts (p t) (list_all p ts) all).0
+each-tested p (t ∷ ts) (suc n) all none = each-tested p ts n (and_parts (p t) (list_all p ts) all).1 none
 
 -- ---- a store that shows a base state
 
@@ -152,7 +153,7 @@ module _ (tables : List Places) (keys : List (Option ℕ)) (partitions : List (L
   rows_small small n =
       let t : Table = table_at known.base n in
       let numbered : are_numbered t ≡ true = each-tested are_numbered known.base n known.numbered refl in
-      let parts = both_true (list_all (λ r. nat_lt r.rowid number_limit) t.rows) (list_all (λ p. nat_lt p.number number_limit) t.parts) numbered in
+      let parts = and_parts (list_all (λ r. nat_lt r.rowid number_limit) t.rows) (list_all (λ p. nat_lt p.number number_limit) t.parts) numbered in
       let values : list_all (λ r. list_all is_small r.values) (rows_at known.base n) ≡ true =
       ap (list_all (λ r. list_all is_small r.values)) (sym (known.shown.rows n)) ∙ all-sorted (λ r. list_all is_small r.values) rowid_cmp (live_rows (places_of tables n)) (small n) in
       ap (list_all is_small_row) (known.shown.rows n)
@@ -162,13 +163,13 @@ module _ (tables : List Places) (keys : List (Option ℕ)) (partitions : List (L
       rowids : (t : Table) (rs : List Row) → list_all (λ r. nat_lt r.rowid number_limit) rs ≡ true → list_all (λ r. nat_lt r.rowid number_limit) (map (row_at t) rs) ≡ true
       rowids t [] h = refl
       rowids t (r ∷ rs) h =
-          let parts = both_true (nat_lt r.rowid number_limit) (list_all (λ s. nat_lt s.rowid number_limit) rs) h in
-          and_true (nat_lt r.rowid number_limit) (list_all (λ s. nat_lt s.rowid number_limit) (map (row_at t) rs)) parts.0 (rowids t rs parts.1)
+          let parts = and_parts (nat_lt r.rowid number_limit) (list_all (λ s. nat_lt s.rowid number_limit) rs) h in
+          and_from (nat_lt r.rowid number_limit) (list_all (λ s. nat_lt s.rowid number_limit) (map (row_at t) rs)) parts.0 (rowids t rs parts.1)
 
       marks : (t : Table) (rs : List Row) → list_all (λ p. nat_lt p.number number_limit) t.parts ≡ true → list_all (λ r. nat_lt r.mark number_limit) (map (row_at t) rs) ≡ true
       marks t [] h = refl
       marks t (r ∷ rs) h =
-          and_true (nat_lt (row_at t r).mark number_limit) (list_all (λ s. nat_lt s.mark number_limit) (map (row_at t) rs)) (mark-small t r.values h) (marks t rs h)
+          and_from (nat_lt (row_at t r).mark number_limit) (list_all (λ s. nat_lt s.mark number_limit) (map (row_at t) rs)) (mark-small t r.values h) (marks t rs h)
 
   pub tuples-small : ((n : ℕ) → AreSmall (live_rows (places_of tables n))) → (tuples : List (List RowAt)) → tuples ≡ joined_over q (rows_shown tables) → AreSmallTuples tuples
   tuples-small small tuples same =

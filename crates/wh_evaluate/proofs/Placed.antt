@@ -1,6 +1,6 @@
 -- A row that stands in a partition is marked with its number.
 use Rattle.std.proofs.Common.{◌≡◌, sym, ap, subst, refl, arith, ℕ, Bool, true, false, cond, not, List, [], ◌∷◌, Option, Some, None, map}
-use Rattle.std.proofs.lemmas.Bool.{eq-eqb}
+use Rattle.std.proofs.lemmas.Bool.{and_from, and_parts, eq-eqb, or_left, or_right}
 use Rattle.std.proofs.lemmas.List.Elements.{All-cons}
 use Rattle.std.specs.List.{All, find, list_all, list_any}
 use Rattle.std.specs.Prelude.{◌&&◌, ◌||◌, ◌==◌, is_some, nat_lt, option_map}
@@ -10,7 +10,6 @@ use Rattle.wh_base.specs.Values.{interval_has, number_limit}
 use Rattle.wh_base.specs.declared.tables.Part.{Part}
 use Rattle.wh_base.specs.declared.values.Interval.{Interval}
 use Rattle.wh_base.specs.declared.values.Value.{Value}
-use Rattle.wh_evaluate.proofs.Filters.{and_true, both_true, or_left, or_right}
 use Rattle.wh_evaluate.specs.Shown.{are_placed, is_placed}
 use Rattle.wh_star.specs.Marked.{AreMarked, is_marked, is_pair}
 
@@ -27,7 +26,7 @@ found_marked key (q ∷ ps) p h = by (interval_has q.1 key) refl h (found_marked
         let same : q ≡ p = cc in
         let number : (q.0.number == p.0.number) ≡ true = eq-eqb q.0.number p.0.number (ap (λ r. r.0.number) same) in
         or_left ((q.0.number == p.0.number) && interval_has q.1 key) (list_any (λ r. (r.0.number == p.0.number) && interval_has r.1 key) ps)
-        (and_true (q.0.number == p.0.number) (interval_has q.1 key) number e)
+        (and_from (q.0.number == p.0.number) (interval_has q.1 key) number e)
     by false e g rest =
         or_right ((q.0.number == p.0.number) && interval_has q.1 key) (list_any (λ r. (r.0.number == p.0.number) && interval_has r.1 key) ps) (rest g)
 
@@ -42,12 +41,12 @@ mark_is t key vs e = ap (λ o. option_case (option_map (value_at vs) o) 0 (λ k.
 row_marked : (t : Table) (key : ℕ) (r : Row) → t.def.part_key ≡ Some key → is_placed t key r ≡ true → (is_marked t.parts key (row_at t r) && not (is_pair (value_at r.values key))) ≡ true
 row_marked t key r e h =
     let value : Value = value_at r.values key in
-    let parts = both_true (is_some (part_of_key t value)) (not (is_pair value)) h in
+    let parts = and_parts (is_some (part_of_key t value)) (not (is_pair value)) h in
     let found : list_any (λ p. (p.0.number == option_case (part_of_key t value) 0 (λ p. p.0.number)) && interval_has p.1 value) (with_intervals None t.parts) ≡ true =
     found_number value (with_intervals None t.parts) (part_of_key t value) refl parts.0 in
     let marked : is_marked t.parts key (row_at t r) ≡ true =
     subst (λ m. list_any (λ p. (p.0.number == m) && interval_has p.1 value) (with_intervals None t.parts) ≡ true) (sym (mark_is t key r.values e)) found in
-    and_true (is_marked t.parts key (row_at t r)) (not (is_pair value)) marked parts.1
+    and_from (is_marked t.parts key (row_at t r)) (not (is_pair value)) marked parts.1
 
 -- the rows of a table are marked
 pub placed-marked : (t : Table) → are_placed t ≡ true → AreMarked t.def.part_key t.parts (map (row_at t) t.rows)
@@ -56,7 +55,7 @@ placed-marked t h = by t.def.part_key refl h
     each : (key : ℕ) (rs : List Row) → t.def.part_key ≡ Some key → list_all (is_placed t key) rs ≡ true → All (λ r. (is_marked t.parts key r && not (is_pair (value_at r.values key))) ≡ true) (map (row_at t) rs)
     each key [] e g = λ k d l. absurd (omega arith)
     each key (r ∷ rs) e g =
-        let parts = both_true (is_placed t key r) (list_all (is_placed t key) rs) g in
+        let parts = and_parts (is_placed t key r) (list_all (is_placed t key) rs) g in
         All-cons (λ s. (is_marked t.parts key s && not (is_pair (value_at s.values key))) ≡ true) (row_at t r) (map (row_at t) rs) (row_marked t key r e parts.0) (each key rs e parts.1)
 
     by : (o : Option ℕ) → t.def.part_key ≡ o → option_case o true (λ key. list_all (is_placed t key) t.rows) ≡ true → AreMarked o t.parts (map (row_at t) t.rows)
@@ -68,7 +67,7 @@ placed-marked t h = by t.def.part_key refl h
 found_small : (key : Value) (lo : Option Value) (ps : List Part) → list_all (λ p. nat_lt p.number number_limit) ps ≡ true → nat_lt (option_case (find (λ r. interval_has r.1 key) (with_intervals lo ps)) 0 (λ p. p.0.number)) number_limit ≡ true
 found_small key lo [] h = refl
 found_small key lo (p ∷ ps) h =
-    let parts = both_true (nat_lt p.number number_limit) (list_all (λ q. nat_lt q.number number_limit) ps) h in
+    let parts = and_parts (nat_lt p.number number_limit) (list_all (λ q. nat_lt q.number number_limit) ps) h in
     by (interval_has (record { lo = lo; hi = p.below }) key) parts.0 (found_small key p.below ps parts.1)
   where
     by : (b : Bool) → nat_lt p.number number_limit ≡ true

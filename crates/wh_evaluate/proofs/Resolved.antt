@@ -1,6 +1,7 @@
 -- What is so of each star form that `resolve` gives: its numbers are small, no condition compares with a pair, and its tables are
 -- there.
 use Rattle.std.proofs.Common.{◌≡◌, ◌∙◌, sym, ap, subst, refl, arith, ℕ, zero, suc, Bool, true, false, cond, not, List, [], ◌∷◌, ◌++◌, ◌<◌, ◌+◌, Option, Some, None, length, map}
+use Rattle.std.proofs.lemmas.Bool.{and_from, and_parts}
 use Rattle.std.proofs.lemmas.Bool.Decides.{nat_tests}
 use Rattle.std.proofs.lemmas.List.Elements.{All-cons, All-head, All-tail}
 use Rattle.std.proofs.lemmas.List.Quantifiers.{position-Some}
@@ -39,7 +40,7 @@ use Rattle.def_resolve.specs.Kinds.{agg_refusal, condition_refusal, equal_refusa
 use Rattle.def_resolve.specs.Names.{Source, column_named, names_refusal, source_of, sources_of, table_refusal}
 use Rattle.def_resolve.specs.Resolve.{first_table, grouping_holds, join_of_table, joins_of, kinds_refusal, resolve, resolved_agg, resolved_condition, resolved_item, resolved_test, star_form, star_query, what_refusal}
 use Rattle.def_resolve.specs.Star.{Tree, grow, is_key_column, is_repeated_number, leads_outwards, next_branch, spanning, star_of, tree_from, with_branch}
-use Rattle.wh_evaluate.proofs.Filters.{all-append, and_true, both_true}
+use Rattle.wh_evaluate.proofs.Filters.{all-append}
 use Rattle.wh_group.specs.Tallies.{HasSmallAggs, is_small_agg}
 use Rattle.wh_star.specs.Marked.{is_pair, no_pairs, without_pairs}
 use Rattle.wh_tuple.specs.Meant.{is_small_expr}
@@ -89,7 +90,7 @@ small_agg defs first (Max e) h = small_expr defs first e h
 module _ (defs : List TableDef) (first : ℕ) (column : ColName → ColRef) where
   small_item : (w : RawWhat) (aggs : List Agg) → what_refusal defs first column w ≡ None → list_all is_small_agg aggs ≡ true → list_all is_small_agg (item_aggs (resolved_item column w) ++ aggs) ≡ true
   small_item (what.Plain c) aggs h k = k
-  small_item (what.Computed a) aggs h k = and_true (is_small_agg (resolved_agg column a)) (list_all is_small_agg aggs) (small_agg defs first (resolved_agg column a) h) k
+  small_item (what.Computed a) aggs h k = and_from (is_small_agg (resolved_agg column a)) (list_all is_small_agg aggs) (small_agg defs first (resolved_agg column a) h) k
 
   small_items :
       (items : List RawItem) → first_of (λ i. what_refusal defs first column i.what) items ≡ None
@@ -106,7 +107,7 @@ module _ (defs : List TableDef) (first : ℕ) (column : ColName → ColRef) wher
   small_tests (t ∷ tests) h =
       let parts = none_first (test_refusal defs first (resolved_agg column t.agg) t.literal) (map (λ u. test_refusal defs first (resolved_agg column u.agg) u.literal) tests) h in
       let agg : agg_refusal defs first (resolved_agg column t.agg) ≡ None = (none_first (agg_refusal defs first (resolved_agg column t.agg)) _ parts.0).0 in
-      and_true (is_small_agg (resolved_agg column t.agg)) (list_all is_small_agg (map (λ u. u.agg) (map (resolved_test column) tests)))
+      and_from (is_small_agg (resolved_agg column t.agg)) (list_all is_small_agg (map (λ u. u.agg) (map (resolved_test column) tests)))
       (small_agg defs first (resolved_agg column t.agg) agg) (small_tests tests parts.1)
 
 -- ---- no pairs
@@ -119,15 +120,15 @@ no_literal_pair (Dated n) = refl
 
 no_literal_pairs : (ls : List Literal) → no_pairs (map literal_value ls) ≡ true
 no_literal_pairs [] = refl
-no_literal_pairs (l ∷ ls) = and_true (not (is_pair (literal_value l))) (no_pairs (map literal_value ls)) (no_literal_pair l) (no_literal_pairs ls)
+no_literal_pairs (l ∷ ls) = and_from (not (is_pair (literal_value l))) (no_pairs (map literal_value ls)) (no_literal_pair l) (no_literal_pairs ls)
 
 plain_condition : (column : ColName → ColRef) (c : RawCondition) → list_all without_pairs (resolved_condition column c) ≡ true
-plain_condition column (raw.Compare c op l) = and_true (not (is_pair (literal_value l))) true (no_literal_pair l) refl
+plain_condition column (raw.Compare c op l) = and_from (not (is_pair (literal_value l))) true (no_literal_pair l) refl
 plain_condition column (raw.Between c l m) =
-    and_true (not (is_pair (literal_value l))) (not (is_pair (literal_value m)) && true) (no_literal_pair l)
-    (and_true (not (is_pair (literal_value m))) true (no_literal_pair m) refl)
+    and_from (not (is_pair (literal_value l))) (not (is_pair (literal_value m)) && true) (no_literal_pair l)
+    (and_from (not (is_pair (literal_value m))) true (no_literal_pair m) refl)
 plain_condition column (raw.Equal a b) = refl
-plain_condition column (raw.OneOf c ls) = and_true (no_pairs (map literal_value ls)) true (no_literal_pairs ls) refl
+plain_condition column (raw.OneOf c ls) = and_from (no_pairs (map literal_value ls)) true (no_literal_pairs ls) refl
 plain_condition column (raw.IsNull c) = refl
 plain_condition column (raw.NotNull c) = refl
 
@@ -208,9 +209,9 @@ key-there defs c h = by c.part (slice_get defs c.table) refl h
 pub far-keys : (defs : List TableDef) (listed : List ℕ) (es : List Edge) → leads_outwards defs listed es ≡ true → All (λ e. is_key_column defs e.to ≡ true) es
 far-keys defs listed [] h = λ k d l. absurd (omega arith)
 far-keys defs listed (e ∷ es) h =
-    let parts = both_true (has_number listed e.from.table && (not (has_number listed e.to.table) && is_key_column defs e.to)) (leads_outwards defs (listed ++ e.to.table ∷ []) es) h in
-    let leads = both_true (has_number listed e.from.table) (not (has_number listed e.to.table) && is_key_column defs e.to) parts.0 in
-    let key = both_true (not (has_number listed e.to.table)) (is_key_column defs e.to) leads.1 in
+    let parts = and_parts (has_number listed e.from.table && (not (has_number listed e.to.table) && is_key_column defs e.to)) (leads_outwards defs (listed ++ e.to.table ∷ []) es) h in
+    let leads = and_parts (has_number listed e.from.table) (not (has_number listed e.to.table) && is_key_column defs e.to) parts.0 in
+    let key = and_parts (not (has_number listed e.to.table)) (is_key_column defs e.to) leads.1 in
     All-cons (λ d. is_key_column defs d.to ≡ true) e es key.1 (far-keys defs (listed ++ e.to.table ∷ []) es parts.1)
 
 -- ---- star forms

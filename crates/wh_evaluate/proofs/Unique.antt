@@ -1,6 +1,6 @@
 -- A column whose values don't repeat is a key of its table's rows.
 use Rattle.std.proofs.Common.{◌≡◌, subst, refl, arith, ℕ, Bool, true, false, cond, not, List, [], ◌∷◌, ◌+◌, ◌≤◌, Some, None, map}
-use Rattle.std.proofs.lemmas.Bool.{eqb-true}
+use Rattle.std.proofs.lemmas.Bool.{eqb-true, or_left, or_right}
 use Rattle.std.proofs.lemmas.List.Elements.{All-head, All-tail}
 use Rattle.std.specs.List.{All, filter, list_any}
 use Rattle.std.specs.Prelude.{◌&&◌, ◌||◌, ◌==◌}
@@ -15,7 +15,6 @@ use Rattle.wh_base.specs.declared.values.Value.TheVariants.{Null}
 use Rattle.def_effect.specs.Block.{column_values}
 use Rattle.def_meaning.specs.Joined.{part_value}
 use Rattle.def_meaning.specs.Meaning.{not_null}
-use Rattle.wh_evaluate.proofs.Filters.{or_left, or_right}
 use Rattle.wh_evaluate.specs.Shown.{IsUnique}
 use Rattle.wh_star.proofs.Products.{times-filter, weight}
 use Rattle.wh_star.specs.Found.{AreKeys}

@@ -1,5 +1,7 @@
 -- The groups of two lists of things, put together.
 use Rattle.std.proofs.Common.{◌≡◌, ◌∙◌, sym, ap, subst, refl, Bool, true, false, cond, ◌||◌, List, [], ◌∷◌, ◌++◌, map}
+use Rattle.std.proofs.lemmas.Bool.{or_parts}
+use Rattle.std.proofs.Math.Bool.{or-false, or-true, or_assoc}
 use Rattle.std.specs.List.{filter}
 use Rattle.std.proofs.lemmas.List.Elements.{filter-append}
 use Rattle.std.proofs.lemmas.List.{append-nil, append_assoc, map-append}
@@ -48,18 +50,6 @@ abbrev add_all : List Key → List Key → List Key
 add_all ds [] = ds
 add_all ds (k ∷ ks) = add_all (add_key ds k) ks
 
-or_false : (b : Bool) → (b || false) ≡ b
-or_false true = refl
-or_false false = refl
-
-or_true : (b : Bool) → (b || true) ≡ true
-or_true true = refl
-or_true false = refl
-
-or_assoc : (a b c : Bool) → ((a || b) || c) ≡ (a || (b || c))
-or_assoc true b c = refl
-or_assoc false b c = refl
-
 found_in : (j : Key) (xs ys : List Key) → is_key j (xs ++ ys) ≡ (is_key j xs || is_key j ys)
 found_in j [] ys = refl
 found_in j (x ∷ xs) ys = ap (λ b. same_values j x || b) (found_in j xs ys) ∙ sym (or_assoc (same_values j x) (is_key j xs) (is_key j ys))
@@ -74,10 +64,10 @@ found_added j k ds = by (is_key k ds) refl
 
     by : (a : Bool) → is_key k ds ≡ a → is_key j (cond a ds (ds ++ k ∷ [])) ≡ (is_key j ds || same_values j k)
     by true e = known (is_key j ds) (same_values j k) (λ f. subst (λ y. is_key y ds ≡ true) (sym (same j k f)) e)
-    by false e = found_in j ds (k ∷ []) ∙ ap (λ b. is_key j ds || b) (or_false (same_values j k))
+    by false e = found_in j ds (k ∷ []) ∙ ap (λ b. is_key j ds || b) (or-false (same_values j k))
 
 found_all : (j : Key) (ds ks : List Key) → is_key j (add_all ds ks) ≡ (is_key j ds || is_key j ks)
-found_all j ds [] = sym (or_false (is_key j ds))
+found_all j ds [] = sym (or-false (is_key j ds))
 found_all j ds (k ∷ ks) = found_all j (add_key ds k) ks ∙ ap (λ b. b || is_key j ks) (found_added j k ds) ∙ or_assoc (is_key j ds) (same_values j k) (is_key j ks)
 
 distinct_all : (xs ys : List Key) → distinct same_values (xs ++ ys) ≡ add_all (distinct same_values xs) ys
@@ -94,7 +84,7 @@ add_one ds zs y = ap (add_all ds) (distinct-push y zs) ∙ by (is_key y (distinc
     by : (a : Bool) → is_key y (distinct same_values zs) ≡ a → add_all ds (cond a (distinct same_values zs) (distinct same_values zs ++ y ∷ [])) ≡ add_key (add_all ds (distinct same_values zs)) y
     by true e =
         let all = add_all ds (distinct same_values zs) in
-        let there : is_key y all ≡ true = found_all y ds (distinct same_values zs) ∙ ap (λ b. is_key y ds || b) e ∙ or_true (is_key y ds) in
+        let there : is_key y all ≡ true = found_all y ds (distinct same_values zs) ∙ ap (λ b. is_key y ds || b) e ∙ or-true (is_key y ds) in
         sym (ap (λ b. cond b all (all ++ y ∷ [])) there)
     by false e = add_last ds (distinct same_values zs) y
 
@@ -159,14 +149,10 @@ apart_from k j ds h g = by (same_values k j) refl
     by true e = let there : is_key j ds ≡ true = subst (λ y. is_key y ds ≡ true) (same k j e) h in cc
     by false e = refl
 
-neither : (a b : Bool) → (a || b) ≡ false → (a ≡ false) × (b ≡ false)
-neither true b h = cc
-neither false b h = (refl, h)
-
 not_last : (k j : Key) (ds : List Key) → is_key j (ds ++ k ∷ []) ≡ false → (is_key j ds ≡ false) × (same_values k j ≡ false)
 not_last k j ds h =
-    let parts = neither (is_key j ds) (same_values j k || false) (sym (found_in j ds (k ∷ [])) ∙ h) in
-    (parts.0, same_turns k j ∙ sym (or_false (same_values j k)) ∙ parts.1)
+    let parts = or_parts (is_key j ds) (same_values j k || false) (sym (found_in j ds (k ∷ [])) ∙ h) in
+    (parts.0, same_turns k j ∙ sym (or-false (same_values j k)) ∙ parts.1)
 
 -- ---- all groups merged
 

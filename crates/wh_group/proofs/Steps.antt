@@ -1,5 +1,6 @@
 -- One more tuple in a map of groups.
 use Rattle.std.proofs.Common.{◌≡◌, sym, ap, subst, refl, Bool, true, false, cond, List, [], ◌∷◌, Some, None}
+use Rattle.std.proofs.lemmas.Option.{same_Some}
 use Rattle.std.specs.Cmp.Lexicographic.{pointwise}
 use Rattle.std.specs.List.{All}
 use Rattle.std.specs.Ordering.{eq_by_cmp}
@@ -11,9 +12,6 @@ use Rattle.wh_group.specs.Tallies.{Kept, HasRoom, HaveRoom, change_group}
 use Rattle.wh_group.specs.declared.tally.Tally.{Tally}
 use Rattle.wh_group.proofs.Keys.{Key, same_by_cmp}
 
-some_same : {A : Type 0} (x y : A) → Some x ≡ Some y → x ≡ y
-some_same x y e = cc
-
 abbrev Matches : (Key → Key → Bool) → Type 0
 Matches eq = (k l : Key) → eq k l ≡ same_values k l
 
@@ -23,7 +21,7 @@ found_room test [] tallies h e = cc
 found_room test (g ∷ gs) tallies h e = by (test g.0) e (found_room test gs tallies (All-tail (λ g. All HasRoom g.1) g gs h))
   where
     by : (b : Bool) → cond b (Some g.1) (lookup test gs) ≡ Some tallies → (lookup test gs ≡ Some tallies → All HasRoom tallies) → All HasRoom tallies
-    by true e more = subst (All HasRoom) (some_same g.1 tallies e) (All-head (λ g. All HasRoom g.1) g gs h)
+    by true e more = subst (All HasRoom) (same_Some g.1 tallies e) (All-head (λ g. All HasRoom g.1) g gs h)
     by false e more = more e
 
 -- the group that is found goes on
@@ -35,7 +33,7 @@ goes_on eq h key change first (g ∷ gs) tallies e = by (eq key g.0) (same_value
     by : (a b : Bool) → a ≡ b → cond a (Some g.1) (lookup (eq key) gs) ≡ Some tallies
         → (lookup (eq key) gs ≡ Some tallies → set_value (eq key) gs (change tallies) ≡ change_group key change first gs)
         → cond a ((g.0, change tallies) ∷ gs) (g ∷ set_value (eq key) gs (change tallies)) ≡ cond b ((g.0, change g.1) ∷ gs) (g ∷ change_group key change first gs)
-    by true true s e more = ap (λ ts. (g.0, change ts) ∷ gs) (sym (some_same g.1 tallies e))
+    by true true s e more = ap (λ ts. (g.0, change ts) ∷ gs) (sym (same_Some g.1 tallies e))
     by true false s e more = cc
     by false true s e more = cc
     by false false s e more = ap (λ l. g ∷ l) (more e)

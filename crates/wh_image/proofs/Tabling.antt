@@ -1,5 +1,6 @@
 -- The image after a change of its tables.
 use Rattle.std.proofs.Common.{◌≡◌, ◌∙◌, sym, ap, refl, subst, arith, ℕ, zero, suc, ◌+◌, ◌<◌, ◌≤◌, Bool, true, false, cond, List, [], ◌∷◌, ◌++◌, map, length, Option, None, Some, nat_le, nat_lt, ◌==◌, ◌&&◌, ◌||◌}
+use Rattle.std.proofs.Math.Bool.{and-false}
 use Rattle.std.proofs.lemmas.Bool.{le-leb, le-ltb, leb-false, leb-true, lt-leb, lt-ltb, ltb-true}
 use Rattle.std.proofs.lemmas.List.{map-append}
 use Rattle.std.proofs.lemmas.List.Elements.{filter-append}
@@ -63,10 +64,6 @@ all_store scn tables views c base h low =
 abbrev passes : ℕ → ℕ → ℕ → Noted → Bool
 passes n q s m = (m.table == n) && (nat_lt q m.scn && nat_le m.scn s)
 
-and_none : (a : Bool) → (a && false) ≡ false
-and_none true = refl
-and_none false = refl
-
 -- what was noted so far is the same at the next SCN
 noted_stay : (c : Catalog) (n q : ℕ) → IsBounded c → filter (passes n q (suc c.scn)) c.changes ≡ filter (passes n q c.scn) c.changes
 noted_stay c n q low =
@@ -92,7 +89,7 @@ is_new n q s d below =
     and_true false = refl
 
 is_old : (n q s : ℕ) (d : TableChange) → s ≤ q → passes n q s (noted s d) ≡ false
-is_old n q s d above = ap (λ b. (d.table == n) && (b && nat_le s s)) (le-ltb q s above) ∙ and_none (d.table == n)
+is_old n q s d above = ap (λ b. (d.table == n) && (b && nat_le s s)) (le-ltb q s above) ∙ and-false (d.table == n)
 
 no_news : (n q s : ℕ) (ds : List TableChange) → q < s → is_in ds n ≡ false → news n q s ds ≡ []
 no_news n q s [] below none = refl
@@ -121,11 +118,11 @@ nothing_within n q s [] above = refl
 nothing_within n q s (m ∷ ms) above = ap (λ b. cond b (m ∷ filter (passes n q s) ms) (filter (passes n q s) ms)) (none (nat_lt q m.scn) refl) ∙ nothing_within n q s ms above
   where
     none : (b : Bool) → nat_lt q m.scn ≡ b → passes n q s m ≡ false
-    none false is = ap (λ a. (m.table == n) && (a && nat_le m.scn s)) is ∙ and_none (m.table == n)
+    none false is = ap (λ a. (m.table == n) && (a && nat_le m.scn s)) is ∙ and-false (m.table == n)
     none true is =
         let later : q < m.scn = ltb-true q m.scn is in
         ap (λ a. (m.table == n) && (nat_lt q m.scn && a)) (lt-leb m.scn s (omega (arith, later, above)))
-        ∙ ap (λ a. (m.table == n) && a) (and_none (nat_lt q m.scn)) ∙ and_none (m.table == n)
+        ∙ ap (λ a. (m.table == n) && a) (and-false (nat_lt q m.scn)) ∙ and-false (m.table == n)
 
 -- ---- CREATE TABLE
 

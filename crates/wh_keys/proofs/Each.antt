@@ -1,6 +1,6 @@
 -- Indexes one after another: those of a table, each with its column.
 use Rattle.std.proofs.Common.{◌≡◌, ◌∙◌, ◌<◌, ◌≤◌, ◌+◌, ◌++◌, take, sym, ap, subst, refl, arith, Bool, true, false, List, [], ◌∷◌, Some, None, Option, Result, Ok, Err, ℕ, zero, suc, length, map, slice_get, option_map, unwrap_or}
-use Rattle.std.proofs.lemmas.Option.{slice_get-get_or, slice_get_past}
+use Rattle.std.proofs.lemmas.Option.{none-some, same_Some, slice_get-get_or, slice_get_past}
 use Rattle.std.specs.FinMap as fin
 use Rattle.std.specs.List.{slice_index, slice_index_or, slice_set}
 use Rattle.std.specs.Ordering.{nat_cmp}
@@ -17,12 +17,6 @@ use Rattle.wh_keys.specs.Coded.{HeldPlaces, HeldValues, held_of}
 use Rattle.wh_keys.specs.Indexes.{Places, keys_changed, values_changed}
 use Rattle.wh_keys.specs.Made.{all_keys_changed, all_values_changed, also_changed, changed_at, empty_indexes, foreign_at, key_at, with_change}
 use Rattle.wh_keys.specs.Undoing.{Changing, all_before, all_now, kept, nothing, rolled_back}
-
-pub none_not_some : {A : Type 0} (x : A) → None ≡ Some x → ⊥
-none_not_some x e = cc
-
-some_same : {A : Type 0} (x y : A) → Some x ≡ Some y → x ≡ y
-some_same x y e = cc
 
 more_of_one : {A B : Type 0} (y : B) (xs : List A) (n : ℕ) → n < length xs → map (λ _. y) (take (suc n) xs) ≡ map (λ _. y) (take n xs) ++ y ∷ []
 more_of_one y [] n low = absurd (omega arith)
@@ -42,8 +36,8 @@ item_is xs n x low is = slice_get-get_or xs n x low ∙ ap Some (sym is)
 
 module _ {M : Type 0} where
   pub before_at : (cs : List (Changing M)) (n : ℕ) (c d : Changing M) → slice_get cs n ≡ Some c → d.before ≡ c.before → all_before (slice_set cs n d) ≡ all_before cs
-  before_at [] n c d there same = absurd (none_not_some c there)
-  before_at (b ∷ cs) zero c d there same = let is = some_same b c there in ap (λ m. m ∷ all_before cs) (same ∙ ap (λ (x : Changing M). x.before) (sym is))
+  before_at [] n c d there same = absurd (none-some c there)
+  before_at (b ∷ cs) zero c d there same = let is = same_Some b c there in ap (λ m. m ∷ all_before cs) (same ∙ ap (λ (x : Changing M). x.before) (sym is))
   before_at (b ∷ cs) (suc n) c d there same = ap (λ ms. b.before ∷ ms) (before_at cs n c d there same)
 
   carried : (h : M → List M) (made : Bool) (m : M) → option_map h (where_true made m) ≡ where_true made (h m)
@@ -56,16 +50,16 @@ module _ {M : Type 0} where
 
   pub made_at : (f : M → Option M) (made : Bool) (cs : List (Changing M)) (n : ℕ) (c d : Changing M) → slice_get cs n ≡ Some c → f c.now ≡ where_true made d.now
       → changed_at n f (all_now cs) ≡ where_true made (all_now (slice_set cs n d))
-  made_at f made [] n c d there is = absurd (none_not_some c there)
+  made_at f made [] n c d there is = absurd (none-some c there)
   made_at f made (b ∷ cs) zero c d there is =
-      let same = some_same b c there in
+      let same = same_Some b c there in
       ap (option_map (λ m. m ∷ all_now cs)) (ap (λ (x : Changing M). f x.now) same ∙ is) ∙ carried (λ m. m ∷ all_now cs) made d.now
   made_at f made (b ∷ cs) (suc n) c d there is =
       ap (option_map (λ ms. b.now ∷ ms)) (made_at f made cs n c d there is) ∙ carried_list b.now made (all_now (slice_set cs n d))
 
   pub changed_to : (f : M → M) (cs : List (Changing M)) (n : ℕ) (c d : Changing M) → slice_get cs n ≡ Some c → d.now ≡ f c.now → all_now (slice_set cs n d) ≡ with_change n f (all_now cs)
-  changed_to f [] n c d there is = absurd (none_not_some c there)
-  changed_to f (b ∷ cs) zero c d there is = let same = some_same b c there in ap (λ m. m ∷ all_now cs) (is ∙ ap (λ (x : Changing M). f x.now) (sym same))
+  changed_to f [] n c d there is = absurd (none-some c there)
+  changed_to f (b ∷ cs) zero c d there is = let same = same_Some b c there in ap (λ m. m ∷ all_now cs) (is ∙ ap (λ (x : Changing M). f x.now) (sym same))
   changed_to f (b ∷ cs) (suc n) c d there is = ap (λ ms. b.now ∷ ms) (changed_to f cs n c d there is)
 
   pub length_now : (cs : List (Changing M)) → length (all_now cs) ≡ length cs
@@ -164,20 +158,20 @@ also_consed column m (Err other) = refl
 keys_next : (columns : List ℕ) (cs : List RowChange) (ms ns : List Places) (n : ℕ) → n < length columns → changed_at n (keys_changed (slice_index columns n) cs) ms ≡ Some ns
     → keys_from (suc n) columns cs ns ≡ keys_from n columns cs ms
 keys_next [] cs ms ns n low is = absurd (omega arith)
-keys_next (column ∷ columns) cs [] ns n low is = absurd (none_not_some ns is)
+keys_next (column ∷ columns) cs [] ns n low is = absurd (none-some ns is)
 keys_next (column ∷ columns) cs (m ∷ ms) ns zero low is = by (keys_changed column cs m) is
   where
     by : (o : Option Places) → option_map (λ k. k ∷ ms) o ≡ Some ns → keys_from 1 (column ∷ columns) cs ns ≡ also_changed column o (all_keys_changed columns cs ms)
-    by None e = absurd (none_not_some ns e)
-    by (Some k) e = ap (keys_from 1 (column ∷ columns) cs) (sym (some_same (k ∷ ms) ns e)) ∙ also_consed column k (all_keys_changed columns cs ms)
+    by None e = absurd (none-some ns e)
+    by (Some k) e = ap (keys_from 1 (column ∷ columns) cs) (sym (same_Some (k ∷ ms) ns e)) ∙ also_consed column k (all_keys_changed columns cs ms)
 keys_next (column ∷ columns) cs (m ∷ ms) ns (suc n) low is =
     by (changed_at n (keys_changed (slice_index columns n) cs) ms) refl is (λ ks at. keys_next columns cs ms ks n (omega arith) at)
   where
     by : (o : Option (List Places)) → changed_at n (keys_changed (slice_index columns n) cs) ms ≡ o → option_map (λ ks. m ∷ ks) o ≡ Some ns
         → ((ks : List Places) → changed_at n (keys_changed (slice_index columns n) cs) ms ≡ Some ks → keys_from (suc n) columns cs ks ≡ keys_from n columns cs ms)
         → keys_from (suc (suc n)) (column ∷ columns) cs ns ≡ consed m (keys_from n columns cs ms)
-    by None at e next = absurd (none_not_some ns e)
-    by (Some ks) at e next = ap (keys_from (suc (suc n)) (column ∷ columns) cs) (sym (some_same (m ∷ ks) ns e)) ∙ ap (consed m) (next ks at)
+    by None at e next = absurd (none-some ns e)
+    by (Some ks) at e next = ap (keys_from (suc (suc n)) (column ∷ columns) cs) (sym (same_Some (m ∷ ks) ns e)) ∙ ap (consed m) (next ks at)
 
 keys_stop : (columns : List ℕ) (cs : List RowChange) (ms : List Places) (n : ℕ) → n < length columns → n < length ms → changed_at n (keys_changed (slice_index columns n) cs) ms ≡ None
     → keys_from n columns cs ms ≡ Err (slice_index columns n)
@@ -187,7 +181,7 @@ keys_stop (column ∷ columns) cs (m ∷ ms) zero low lower is = by (keys_change
   where
     by : (o : Option Places) → option_map (λ k. k ∷ ms) o ≡ None → also_changed column o (all_keys_changed columns cs ms) ≡ Err column
     by None e = refl
-    by (Some k) e = absurd (none_not_some (k ∷ ms) (sym e))
+    by (Some k) e = absurd (none-some (k ∷ ms) (sym e))
 keys_stop (column ∷ columns) cs (m ∷ ms) (suc n) low lower is =
     by (changed_at n (keys_changed (slice_index columns n) cs) ms) refl is (λ at. keys_stop columns cs ms n (omega arith) (omega arith) at)
   where
@@ -195,7 +189,7 @@ keys_stop (column ∷ columns) cs (m ∷ ms) (suc n) low lower is =
         → (changed_at n (keys_changed (slice_index columns n) cs) ms ≡ None → keys_from n columns cs ms ≡ Err (slice_index columns n))
         → consed m (keys_from n columns cs ms) ≡ Err (slice_index columns n)
     by None at e stop = ap (consed m) (stop at)
-    by (Some ks) at e stop = absurd (none_not_some (m ∷ ks) (sym e))
+    by (Some ks) at e stop = absurd (none-some (m ∷ ks) (sym e))
 
 pub keys_on : (columns : List ℕ) (cs : List RowChange) (ms ns : List Places) (n : ℕ) (made : Bool) → n < length columns
     → changed_at n (keys_changed (slice_index columns n) cs) ms ≡ where_true made ns → made ≡ true → keys_from (n + 1) columns cs ns ≡ keys_from n columns cs ms
@@ -231,11 +225,11 @@ foreign_from (suc n) (f ∷ fs) cs (m ∷ ms) = m ∷ foreign_from n fs cs ms
 
 foreign_next : (fs : List ForeignDef) (cs : List RowChange) (ms : List Values) (n : ℕ) (f : ForeignDef) → slice_get fs n ≡ Some f
     → foreign_from (suc n) fs cs (with_change n (values_changed f.column cs) ms) ≡ foreign_from n fs cs ms
-foreign_next [] cs ms n f there = absurd (none_not_some f there)
+foreign_next [] cs ms n f there = absurd (none-some f there)
 foreign_next (g ∷ fs) cs [] zero f there = refl
 foreign_next (g ∷ fs) cs [] (suc n) f there = refl
 foreign_next (g ∷ fs) cs (m ∷ ms) zero f there =
-    ap (λ (d : ForeignDef). values_changed d.column cs m ∷ all_values_changed fs cs ms) (sym (some_same g f there))
+    ap (λ (d : ForeignDef). values_changed d.column cs m ∷ all_values_changed fs cs ms) (sym (same_Some g f there))
 foreign_next (g ∷ fs) cs (m ∷ ms) (suc n) f there = ap (λ ns. m ∷ ns) (foreign_next fs cs ms n f there)
 
 pub foreign_on : (fs : List ForeignDef) (cs : List RowChange) (ms ns : List Values) (n : ℕ) (d : ForeignDef) → n < length fs

@@ -1,5 +1,6 @@
 -- What changes leave as it is: how many tables and indexes there are, and the indexes of other tables.
 use Rattle.std.proofs.Common.{◌≡◌, ◌∙◌, ◌<◌, sym, ap, subst, refl, arith, List, [], ◌∷◌, Some, None, Option, Result, Ok, Err, ℕ, zero, suc, length}
+use Rattle.std.proofs.lemmas.Option.{none-some}
 use Rattle.std.specs.FinMap as fin
 use Rattle.std.specs.Prelude.{map as each}
 use Rattle.wh_base.specs.Lists.{◌>>=◌}
@@ -8,7 +9,6 @@ use Rattle.wh_base.specs.declared.tables.TableDef.{TableDef}
 use Rattle.wh_dml.specs.declared.changes.RowChange.{RowChange}
 use Rattle.wh_keyindex.specs.Children.{Values}
 use Rattle.wh_keys.specs.Indexes.{Indexes, Places, keys_changed}
-use Rattle.wh_keys.proofs.Each.{none_not_some}
 use Rattle.wh_keys.specs.Made.{AnswersKeys, all_keys_changed, all_values_changed, also_changed, empty_indexes, indexes_at, keys_made, with_indexes, with_keys_of}
 
 ok_same : {A : Type 0} (x y : A) → ◌≡◌ {A = Result A ℕ} (Ok x) (Ok y) → x ≡ y
@@ -89,7 +89,7 @@ keys_as_many n columns cs all new low as_many is =
 
 pub none_made : (made : Result (List Indexes) ℕ) (clash : Option ℕ) (new : List Indexes) → AnswersKeys made clash new → clash ≡ None → made ≡ Ok new
 none_made made None new h is = h
-none_made made (Some column) new h is = absurd (none_not_some column (sym is))
+none_made made (Some column) new h is = absurd (none-some column (sym is))
 
 pub ruleset standing = (tables_stay, foreign_stay, keys_as_many)
 

@@ -1,5 +1,6 @@
 -- The indexes of all tables after each call.
 use Rattle.std.proofs.Common.{◌≡◌, ◌∙◌, ◌≤◌, ◌++◌, sym, ap, subst, refl, arith, List, [], ◌∷◌, Some, None, Option, Result, Ok, ℕ, zero, suc, length, map, slice_get, option_map, unwrap_or}
+use Rattle.std.proofs.lemmas.Option.{none-some}
 use Rattle.std.proofs.lemmas.List.{take-map}
 use Rattle.std.specs.FinMap as fin
 use Rattle.std.specs.List.{slice_set}
@@ -16,7 +17,7 @@ use Rattle.wh_keys.specs.Coded.{Held, HeldIndexes}
 use Rattle.wh_keys.specs.Indexes.{Indexes, Places}
 use Rattle.wh_keys.specs.Made.{AnswersKeys, all_keys_changed, all_values_changed, foreign_at, foreign_made, indexes_at, key_at, keys_made, no_indexes, with_indexes, with_keys_of}
 use Rattle.wh_keys.specs.Undoing.{Changing, all_before, all_now, kept, rolled_back}
-use Rattle.wh_keys.proofs.Each.{before_kept, before_rolled_back, get_now, none_not_some, now_kept, now_rolled_back, past_end}
+use Rattle.wh_keys.proofs.Each.{before_kept, before_rolled_back, get_now, now_kept, now_rolled_back, past_end}
 
 -- ---- one table more
 
@@ -64,7 +65,7 @@ pub indexes_there : (ts : List HeldIndexes) (n : ℕ) (t : HeldIndexes) → slic
 indexes_there ts n t there = ap (λ o. unwrap_or o no_indexes) (get_now ts n ∙ ap (option_map (λ (c : HeldIndexes). c.now)) there)
 
 set_indexes : (ts : List HeldIndexes) (n : ℕ) (t u : HeldIndexes) → slice_get ts n ≡ Some t → all_now (slice_set ts n u) ≡ with_indexes n u.now (all_now ts)
-set_indexes [] n t u there = absurd (none_not_some t there)
+set_indexes [] n t u there = absurd (none-some t there)
 set_indexes (s ∷ ts) zero t u there = refl
 set_indexes (s ∷ ts) (suc n) t u there = ap (λ is. s.now ∷ is) (set_indexes ts n t u there)
 

@@ -2,7 +2,7 @@
 use Rattle.std.proofs.Common.{◌≡◌, ◌∙◌, sym, ap, subst, refl, arith, ℕ, suc, zero, ◌+◌, ◌-◌, ◌<◌, ◌≤◌, ◌==◌, ◌&&◌, ◌||◌, Bool, true, false, true≢false, cond, List, [], ◌∷◌, ◌++◌, length, map, take, slice_get, find, flat_map, Option, Some}
 use Rattle.std.specs.List.{All, AllByRecursion, enumerate_from, list_all}
 use Rattle.std.specs.Prelude.{unwrap_or}
-use Rattle.std.proofs.lemmas.Bool.{and_from, and_parts, eq-eqb, eqb-true}
+use Rattle.std.proofs.lemmas.Bool.{and_parts, eq-eqb, eqb-true}
 use Rattle.std.proofs.lemmas.List.Elements.{All-from_recursion, filter-append}
 use Rattle.wh_base.specs.Lists.{count_from, has_number, option_case}
 use Rattle.wh_base.specs.Parts.{command_entries, parts_of, section_entries}
@@ -12,7 +12,7 @@ use Rattle.wh_base.specs.declared.statements.Script.{Script}
 use Rattle.wh_base.specs.declared.statements.Section.{Section}
 use Rattle.def_journal.specs.Jobs.{accepted_submits, is_own, jobs_are_legal, same_entries, same_entry}
 use Rattle.def_journal.specs.Journal.{is_legal, no_command, not_of_session, of_session, order_of, own_entries, own_turns, session_numbers}
-use Rattle.def_journal.proofs.NoJobs.{all_own_entries, legal_is_own, order_without_jobs}
+use Rattle.def_journal.proofs.NoJobs.{all_own_entries, entries_themselves, legal_is_own, order_without_jobs}
 use Rattle.wh_order.specs.Laws.{IsNext, Names}
 use Rattle.wh_order.proofs.Listed.{each_append, each_from_all, each_map, each_right, each_weaker}
 
@@ -36,16 +36,6 @@ entries_are (x ∷ xs) [] h = absurd (true≢false (sym h))
 entries_are (x ∷ xs) (y ∷ ys) h =
     let parts = and_parts (same_entry x y) (same_entries xs ys) h in
     ap (λ z. z ∷ xs) (entry_is x y parts.0) ∙ ap (λ zs. y ∷ zs) (entries_are xs ys parts.1)
-
-entry_itself : (x : Entry) → same_entry x x ≡ true
-entry_itself x =
-    and_from (x.session == x.session) ((x.command == x.command) && ((x.part == x.part) && (x.worker == x.worker))) (eq-eqb x.session x.session refl)
-    (and_from (x.command == x.command) ((x.part == x.part) && (x.worker == x.worker)) (eq-eqb x.command x.command refl)
-    (and_from (x.part == x.part) (x.worker == x.worker) (eq-eqb x.part x.part refl) (eq-eqb x.worker x.worker refl)))
-
-entries_themselves : (xs : List Entry) → same_entries xs xs ≡ true
-entries_themselves [] = refl
-entries_themselves (x ∷ xs) = and_from (same_entry x x) (same_entries xs xs) (entry_itself x) (entries_themselves xs)
 
 pub entries_same : (xs ys : List Entry) → xs ≡ ys → same_entries xs ys ≡ true
 entries_same xs ys is = subst (λ zs. same_entries xs zs ≡ true) is (entries_themselves xs)

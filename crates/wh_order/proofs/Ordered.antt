@@ -1,7 +1,7 @@
 -- A script's own order is legal.
 use Rattle.std.proofs.Common.{◌≡◌, ◌∙◌, sym, ap, subst, refl, ℕ, ◌==◌, ◌&&◌, ◌||◌, Bool, true, false, cond, not, List, [], ◌∷◌, ◌++◌, map, take, drop, filter, flat_map, Some, None}
 use Rattle.std.specs.List.{AllByRecursion, list_all, list_any}
-use Rattle.std.proofs.lemmas.Bool.{and_from, eq-eqb, eqb-false, eqb-true, ne_eqb, not_from_false, not_from_true, or_parts, or_right}
+use Rattle.std.proofs.lemmas.Bool.{and_from, eq-eqb, eqb-false, eqb-true, ne_eqb, not-true, not_from_false, not_from_true, or_parts, or_right}
 use Rattle.std.proofs.lemmas.List.{append-nil, append_assoc}
 use Rattle.std.proofs.lemmas.List.Elements.{filter-append}
 use Rattle.std.proofs.lemmas.List.Folds.{flat_map-map}
@@ -369,10 +369,6 @@ front_first xs ys front back =
     let rest : not_of_session 0 (xs ++ ys) ≡ ys = filter-append (λ e. not (e.session == 0)) xs ys ∙ ap (λ es. es ++ not_of_session 0 ys) (filter_none (λ e. not (e.session == 0)) xs none) ∙ filter_all (λ e. not (e.session == 0)) ys all in
     ap (λ es. es ++ not_of_session 0 (xs ++ ys)) first ∙ ap (λ es. xs ++ es) rest
 
-not_true : (b : Bool) → not b ≡ true → b ≡ false
-not_true true h = sym h
-not_true false h = refl
-
 -- no worker has an entry in the turns of the sessions
 turns_alone : (script : Script) → list_all is_own (own_turns script) ≡ true
 turns_alone script =
@@ -396,7 +392,7 @@ turns_legal script without once =
     let known : Entry → Bool = λ e. has_number (session_numbers script) e.session in
     let apart : AreApart (section_numbers sections) = apart_after [] (session_numbers script) once in
     let setups : AllByRecursion (λ e. (e.session == 0) ≡ true) front = setup_holds (λ n. (n == 0) ≡ true) sections (each_passed is_setup sections) in
-    let rest : AllByRecursion (λ e. (e.session == 0) ≡ false) back = turns_hold (λ n. (n == 0) ≡ false) script.order sections (each_weaker (λ s. others s ≡ true) (λ s. is_setup s ≡ false) (λ s h. not_true (is_setup s) h) (filter others sections) (each_passed others sections)) in
+    let rest : AllByRecursion (λ e. (e.session == 0) ≡ false) back = turns_hold (λ n. (n == 0) ≡ false) script.order sections (each_weaker (λ s. others s ≡ true) (λ s. is_setup s ≡ false) (λ s h. not-true (is_setup s) h) (filter others sections) (each_passed others sections)) in
     let setup_known : AllByRecursion (λ e. known e ≡ true) front = setup_holds (λ n. has_number (session_numbers script) n ≡ true) sections (each_filter (λ s. has_number (session_numbers script) s.session ≡ true) is_setup sections (each_there sections)) in
     let rest_known : AllByRecursion (λ e. known e ≡ true) back = turns_hold (λ n. has_number (session_numbers script) n ≡ true) script.order sections (each_filter (λ s. has_number (session_numbers script) s.session ≡ true) others sections (each_there sections)) in
     let own_at : (s : Section) → sections_in s.session sections ≡ section_entries s → owned s ≡ true = λ s h. entries_same (own_entries s.session journal) (section_entries s) (all_own_entries s.session journal alone ∙ order_parts script s.session apart ∙ h) in

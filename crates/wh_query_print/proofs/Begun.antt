@@ -1,5 +1,6 @@
 -- Rules that don't read what stands next, and lists that read back.
-use Rattle.std.proofs.Common.{◌≡◌, ℕ, ◌<◌, ◌≤◌, suc, zero, List, [], ◌∷◌, ◌++◌, length, refl, sym, append_assoc, arith, true, false, Bool, ◌||◌, subst, Option, Some, None}
+use Rattle.std.proofs.Common.{◌≡◌, ℕ, ◌<◌, ◌≤◌, suc, zero, List, [], ◌∷◌, ◌++◌, length, refl, sym, append_assoc, arith, true, false, Bool, subst, Option, Some, None}
+use Rattle.std.proofs.lemmas.Bool.{or_right}
 use Rattle.std.proofs.lemmas.List.{length-append}
 use Rattle.std.proofs.lemmas.Slice.Eq.{bytes_eq-Decides}
 use Rattle.std.specs.Prelude.{flat_map}
@@ -84,13 +85,9 @@ pub begun-name : (ws : List (List ℕ)) (rest : List Token) → Each IsReserved 
 begun-name ws [] kept h = refl
 begun-name ws (t ∷ ts) kept h = name-at h.0 t ts h.2 (among ws h.0 IsReserved kept h.1)
 
-or-later : (p q : Bool) → q ≡ true → (p || q) ≡ true
-or-later true q h = refl
-or-later false q h = h
-
 begun-more : (k : List ℕ) (ws : List (List ℕ)) (rest : List Token) → Begun ws rest → Begun (k ∷ ws) rest
 begun-more k ws [] h = tt
-begun-more k ws (t ∷ ts) h = (h.0, or-later (same_text h.0 k) (has_text ws h.0) h.1, h.2)
+begun-more k ws (t ∷ ts) h = (h.0, or_right (same_text h.0 k) (has_text ws h.0) h.1, h.2)
 
 -- a clause that may be left out
 pub begun-clause : {A : Type 0} (k : List ℕ) (keywords between : List Token) (f : A → List Token) (xs : List A) (ws : List (List ℕ)) (rest : List Token)

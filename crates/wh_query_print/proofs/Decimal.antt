@@ -1,12 +1,13 @@
 -- A number in decimal is a numeral that reads as the number, and the text of a day stands on one line.
 use Rattle.std.proofs.Common.{◌≡◌, ℕ, ◌+◌, ◌-◌, ◌*◌, ◌/◌, ◌%◌, ◌^◌, ◌<◌, ◌≤◌, suc, zero, List, [], ◌∷◌, length, refl, ap, ◌∙◌, arith, Some, cond, true, false, Bool}
+use Rattle.std.proofs.lemmas.Bool.{and_from}
 use Rattle.std.proofs.lemmas.Bool.Decides.{nat_tests}
 use Rattle.std.proofs.lemmas.List.Folds.{list_all-append}
 use Rattle.std.proofs.Math.Nat.{pow-succ'}
 use Rattle.std.specs.Char.{is_ascii_digit}
 use Rattle.std.specs.Fmt.{decimal, digit_glyph, digits, digits_onto}
 use Rattle.std.specs.List.{list_all}
-use Rattle.std.specs.Prelude.{nat_le, nat_lt, not, ℤ, ◌&&◌, ◌++◌, ◌==◌}
+use Rattle.std.specs.Prelude.{nat_le, nat_lt, not, ℤ, ◌++◌, ◌==◌}
 use Rattle.wh_base.specs.Days.{Date, date_of, date_text, day_text, padded}
 use Rattle.wh_base.specs.Values.{digits_number, digits_value}
 use Rattle.def_grammar.specs.Written.{is_line, is_numeral}
@@ -104,11 +105,8 @@ number-decimal n h =
 
 -- ---- days
 
-both-true : (p q : Bool) → p ≡ true → q ≡ true → (p && q) ≡ true
-both-true p q h k = rw (h, k) refl
-
 lines : (xs ys : List ℕ) → is_line xs ≡ true → is_line ys ≡ true → is_line (xs ++ ys) ≡ true
-lines xs ys h k = list_all-append (λ b. not (b == 10)) xs ys ∙ both-true (is_line xs) (is_line ys) h k
+lines xs ys h k = list_all-append (λ b. not (b == 10)) xs ys ∙ and_from (is_line xs) (is_line ys) h k
 
 digit-line : (n : ℕ) → is_line ((48 + n % 10) ∷ []) ≡ true
 digit-line n = let kept : not (48 + n % 10 == 10) ≡ true = grind (arith, nat_tests) in rw kept refl

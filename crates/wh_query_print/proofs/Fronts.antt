@@ -1,5 +1,6 @@
 -- What stands at the front of a text that begins with a token as it is written.
 use Rattle.std.proofs.Common.{◌≡◌, ℕ, ◌+◌, suc, List, [], ◌∷◌, ◌++◌, length, get_or, refl, ap, sym, ◌∙◌, append_assoc, arith, Some, cond, true, false, Bool, ◌&&◌, map}
+use Rattle.std.proofs.lemmas.Bool.{and_parts}
 use Rattle.std.proofs.Math.Seq.{take-append_seam}
 use Rattle.std.proofs.lemmas.Bool.Decides.{nat_tests}
 use Rattle.std.proofs.lemmas.List.{length-append}
@@ -19,18 +20,10 @@ abbrev pub begins : (ℕ → Bool) → List ℕ → Bool
 begins p [] = false
 begins p (b ∷ bs) = p b
 
-pub and_first : (p q : Bool) → (p && q) ≡ true → p ≡ true
-and_first true q h = refl
-and_first false q h = h
-
-pub and_later : (p q : Bool) → (p && q) ≡ true → q ≡ true
-and_later true q h = h
-and_later false q h = cc
-
 run : (p : ℕ → Bool) (xs rest : List ℕ) → list_all p xs ≡ true → begins p rest ≡ false → take_while p (xs ++ rest) ≡ xs
 run p [] [] all ends = refl
 run p [] (b ∷ bs) all ends = rw (take_while-cons p b bs, ends) refl
-run p (x ∷ xs) rest all ends = rw (take_while-cons p x (xs ++ rest), and_first (p x) (list_all p xs) all) (ap (λ ys. x ∷ ys) (run p xs rest (and_later (p x) (list_all p xs) all) ends))
+run p (x ∷ xs) rest all ends = rw (take_while-cons p x (xs ++ rest), (and_parts (p x) (list_all p xs) all).0) (ap (λ ys. x ∷ ys) (run p xs rest (and_parts (p x) (list_all p xs) all).1 ends))
 
 start-name : (b next : ℕ) → is_ascii_alphabetic b ≡ true → start_of b next ≡ starts.Name
 start-name b next h = grind (arith, nat_tests, h)
@@ -41,21 +34,21 @@ start-number b next h = grind (arith, nat_tests, h)
 folded-name : (bs : List ℕ) → list_all is_folded bs ≡ true → list_all is_name_byte bs ≡ true
 folded-name [] h = refl
 folded-name (b ∷ bs) h =
-    let first : is_folded b ≡ true = and_first (is_folded b) (list_all is_folded bs) h in
-    rw (and_first (is_name_byte b) (to_ascii_uppercase b == b) first, folded-name bs (and_later (is_folded b) (list_all is_folded bs) h)) refl
+    let first : is_folded b ≡ true = (and_parts (is_folded b) (list_all is_folded bs) h).0 in
+    rw ((and_parts (is_name_byte b) (to_ascii_uppercase b == b) first).0, folded-name bs (and_parts (is_folded b) (list_all is_folded bs) h).1) refl
 
 folded-same : (bs : List ℕ) → list_all is_folded bs ≡ true → map to_ascii_uppercase bs ≡ bs
 folded-same [] h = refl
 folded-same (b ∷ bs) h =
-    let first : is_folded b ≡ true = and_first (is_folded b) (list_all is_folded bs) h in
-    let same : (to_ascii_uppercase b == b) ≡ true = and_later (is_name_byte b) (to_ascii_uppercase b == b) first in
+    let first : is_folded b ≡ true = (and_parts (is_folded b) (list_all is_folded bs) h).0 in
+    let same : (to_ascii_uppercase b == b) ≡ true = (and_parts (is_name_byte b) (to_ascii_uppercase b == b) first).1 in
     let upper : to_ascii_uppercase b ≡ b = grind (arith, nat_tests, same) in
-    rw (upper, folded-same bs (and_later (is_folded b) (list_all is_folded bs) h)) refl
+    rw (upper, folded-same bs (and_parts (is_folded b) (list_all is_folded bs) h).1) refl
 
 part-name : (b : ℕ) (bs rest : List ℕ) → list_all is_folded (b ∷ bs) ≡ true → nat_lt (length bs) 30 ≡ true → begins is_name_byte rest ≡ false
     → name_part (b ∷ (bs ++ rest)) ≡ front.Token kinds.Name (b ∷ bs) (length bs)
 part-name b bs rest all few ends =
-    let whole : take_while is_name_byte (bs ++ rest) ≡ bs = run is_name_byte bs rest (folded-name bs (and_later (is_folded b) (list_all is_folded bs) all)) ends in
+    let whole : take_while is_name_byte (bs ++ rest) ≡ bs = run is_name_byte bs rest (folded-name bs (and_parts (is_folded b) (list_all is_folded bs) all).1) ends in
     let more : length bs + 1 ≡ suc (length bs) = omega arith in
     rw (whole, few, more, take-append_seam bs rest) (ap (λ t. front.Token kinds.Name t (length bs)) (folded-same (b ∷ bs) all))
 
@@ -63,9 +56,9 @@ pub front-name : (b : ℕ) (bs rest : List ℕ) → is_identifier (b ∷ bs) ≡
     → front_of (b ∷ (bs ++ rest)) ≡ front.Token kinds.Name (b ∷ bs) (length bs)
 unfolding front_of
 front-name b bs rest h ends =
-    let letter : is_ascii_alphabetic b ≡ true = and_first (is_ascii_alphabetic b) (list_all is_folded (b ∷ bs) && nat_lt (length bs) 30) h in
-    let others : (list_all is_folded (b ∷ bs) && nat_lt (length bs) 30) ≡ true = and_later (is_ascii_alphabetic b) (list_all is_folded (b ∷ bs) && nat_lt (length bs) 30) h in
-    rw (start-name b (get_or (b ∷ (bs ++ rest)) 1 0) letter) (part-name b bs rest (and_first (list_all is_folded (b ∷ bs)) (nat_lt (length bs) 30) others) (and_later (list_all is_folded (b ∷ bs)) (nat_lt (length bs) 30) others) ends)
+    let letter : is_ascii_alphabetic b ≡ true = (and_parts (is_ascii_alphabetic b) (list_all is_folded (b ∷ bs) && nat_lt (length bs) 30) h).0 in
+    let others : (list_all is_folded (b ∷ bs) && nat_lt (length bs) 30) ≡ true = (and_parts (is_ascii_alphabetic b) (list_all is_folded (b ∷ bs) && nat_lt (length bs) 30) h).1 in
+    rw (start-name b (get_or (b ∷ (bs ++ rest)) 1 0) letter) (part-name b bs rest (and_parts (list_all is_folded (b ∷ bs)) (nat_lt (length bs) 30) others).0 (and_parts (list_all is_folded (b ∷ bs)) (nat_lt (length bs) 30) others).1 ends)
 
 part-number : (b : ℕ) (bs rest : List ℕ) → list_all is_ascii_digit bs ≡ true → nat_lt (length bs) 38 ≡ true → begins is_ascii_digit rest ≡ false
     → number_part (b ∷ (bs ++ rest)) ≡ front.Token kinds.Number (b ∷ bs) (length bs)
@@ -78,9 +71,9 @@ pub front-number : (b : ℕ) (bs rest : List ℕ) → is_numeral (b ∷ bs) ≡ 
     → front_of (b ∷ (bs ++ rest)) ≡ front.Token kinds.Number (b ∷ bs) (length bs)
 unfolding front_of
 front-number b bs rest h ends =
-    let all : list_all is_ascii_digit (b ∷ bs) ≡ true = and_first (list_all is_ascii_digit (b ∷ bs)) (nat_lt (length bs) 38) h in
-    rw (start-number b (get_or (b ∷ (bs ++ rest)) 1 0) (and_first (is_ascii_digit b) (list_all is_ascii_digit bs) all))
-    (part-number b bs rest (and_later (is_ascii_digit b) (list_all is_ascii_digit bs) all) (and_later (list_all is_ascii_digit (b ∷ bs)) (nat_lt (length bs) 38) h) ends)
+    let all : list_all is_ascii_digit (b ∷ bs) ≡ true = (and_parts (list_all is_ascii_digit (b ∷ bs)) (nat_lt (length bs) 38) h).0 in
+    rw (start-number b (get_or (b ∷ (bs ++ rest)) 1 0) (and_parts (is_ascii_digit b) (list_all is_ascii_digit bs) all).0)
+    (part-number b bs rest (and_parts (is_ascii_digit b) (list_all is_ascii_digit bs) all).1 (and_parts (list_all is_ascii_digit (b ∷ bs)) (nat_lt (length bs) 38) h).1 ends)
 
 plain : (b : ℕ) (bs : List ℕ) → (b == 10) ≡ false → (b == 39) ≡ false → text_of (b ∷ bs) ≡ text_more b 1 (text_of bs)
 plain b [] n q = rw q refl
@@ -102,8 +95,8 @@ pub quoted-text : (text rest : List ℕ) → is_line text ≡ true → begins (�
     → text_of (flat_map doubled text ++ 39 ∷ rest) ≡ Some (text, length (flat_map doubled text) + 1)
 quoted-text [] rest line ends = closed rest ends
 quoted-text (b ∷ bs) rest line ends =
-    let one : not (b == 10) ≡ true = and_first (not (b == 10)) (is_line bs) line in
-    let more : text_of (flat_map doubled bs ++ 39 ∷ rest) ≡ Some (bs, length (flat_map doubled bs) + 1) = quoted-text bs rest (and_later (not (b == 10)) (is_line bs) line) ends in
+    let one : not (b == 10) ≡ true = (and_parts (not (b == 10)) (is_line bs) line).0 in
+    let more : text_of (flat_map doubled bs ++ 39 ∷ rest) ≡ Some (bs, length (flat_map doubled bs) + 1) = quoted-text bs rest (and_parts (not (b == 10)) (is_line bs) line).1 ends in
     let read : text_of (doubled b ++ (flat_map doubled bs ++ 39 ∷ rest)) ≡ Some (b ∷ bs, length (doubled b) + (length (flat_map doubled bs) + 1)) = quoted-byte b bs (flat_map doubled bs ++ 39 ∷ rest) (length (flat_map doubled bs) + 1) (b == 39) refl (line-byte b one) more in
     let bytes : length (doubled b) + (length (flat_map doubled bs) + 1) ≡ length (doubled b ++ flat_map doubled bs) + 1 = omega (arith, length-append (doubled b) (flat_map doubled bs)) in
     rw (append_assoc (doubled b) (flat_map doubled bs) (39 ∷ rest), sym bytes) read

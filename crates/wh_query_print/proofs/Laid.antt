@@ -1,5 +1,7 @@
 -- Tokens that are laid out as a text are the tokens of the text.
 use Rattle.std.proofs.Common.{◌≡◌, ℕ, ◌+◌, suc, List, [], ◌∷◌, ◌++◌, length, refl, ap, sym, ◌∙◌, append_assoc, arith, true, false, Bool, ◌&&◌, ◌||◌, cond, map, subst, Result, Ok, Err, ◌⊎◌, inl, inr}
+use Rattle.std.proofs.lemmas.Bool.{and_parts}
+use Rattle.std.proofs.Math.Bool.{and-false}
 use Rattle.std.proofs.lemmas.Bool.Decides.{nat_tests}
 use Rattle.std.proofs.lemmas.List.{length-append}
 use Rattle.std.specs.Char.{is_ascii_digit}
@@ -17,7 +19,7 @@ use Rattle.def_grammar.specs.Canonical.{is_call, is_closing, is_joined, is_negat
 use Rattle.def_grammar.specs.Reading.{doubled, is_token, same_token_kind}
 use Rattle.def_grammar.specs.Written.{Each, IsSpelled, is_line, is_numeral, is_spelling}
 use Rattle.wh_query_print.specs.Kept.{unplaced}
-use Rattle.wh_query_print.proofs.Fronts.{and_first, and_later, begins, front-name, front-number, quoted-text}
+use Rattle.wh_query_print.proofs.Fronts.{begins, front-name, front-number, quoted-text}
 use Rattle.wh_query_print.proofs.Marks.{front-mark, goes_on, open_marks, same-text}
 
 -- the bytes that would go on a token, if they stood behind it
@@ -84,10 +86,6 @@ lex-one t us rest place s ends more =
 
 -- ---- no token goes on in the next
 
-and-false : (p : Bool) → (p && false) ≡ false
-and-false true = refl
-and-false false = refl
-
 pub or-cases : (p q : Bool) → (p || q) ≡ true → (p ≡ true) ⊎ (q ≡ true)
 or-cases true q h = inl refl
 or-cases false q h = inr h
@@ -109,10 +107,10 @@ kind-is kinds.Mark kinds.Mark h = refl
 kind-is _ _ h = cc
 
 token-kind : (k : TokenKind) (w : List ℕ) (t : Token) → is_token k w t ≡ true → t.kind ≡ k
-token-kind k w t h = kind-is t.kind k (and_first (same_token_kind t.kind k) (same_text t.text w) h)
+token-kind k w t h = kind-is t.kind k (and_parts (same_token_kind t.kind k) (same_text t.text w) h).0
 
 token-text : (k : TokenKind) (w : List ℕ) (t : Token) → is_token k w t ≡ true → t.text ≡ w
-token-text k w t h = same-text t.text w (and_later (same_token_kind t.kind k) (same_text t.text w) h)
+token-text k w t h = same-text t.text w (and_parts (same_token_kind t.kind k) (same_text t.text w) h).1
 
 -- behind any token stands this mark
 before-mark : (t u : Token) (b : ℕ) (more : List ℕ) → Stops b → is_token kinds.Mark (b ∷ []) u ≡ true → begins (goes t.kind t.text) (written_token u ++ more) ≡ false
@@ -128,7 +126,7 @@ digit-stops b h = grind (arith, nat_tests, h)
 
 number-first : (text more : List ℕ) → is_numeral text ≡ true → begins (goes kinds.Mark (codes "-")) (text ++ more) ≡ false
 number-first [] more h = cc
-number-first (b ∷ bs) more h = digit-stops b (and_first (is_ascii_digit b) (list_all is_ascii_digit bs) (and_first (list_all is_ascii_digit (b ∷ bs)) (nat_lt (length bs) 38) h))
+number-first (b ∷ bs) more h = digit-stops b (and_parts (is_ascii_digit b) (list_all is_ascii_digit bs) (and_parts (list_all is_ascii_digit (b ∷ bs)) (nat_lt (length bs) 38) h).0).0
 
 number-behind : (t : Token) (kind : TokenKind) (text more : List ℕ) → is_spelling kind text ≡ true → kind ≡ kinds.Number → is_token kinds.Mark (codes "-") t ≡ true
     → begins (goes t.kind t.text) (written kind text ++ more) ≡ false
@@ -152,12 +150,12 @@ joined-closing t u more h =
 
 joined-call : (t u : Token) (more : List ℕ) → is_call t u ≡ true → begins (goes t.kind t.text) (written_token u ++ more) ≡ false
 joined-call t u more h =
-    let opens : is_token kinds.Mark (codes "(") u && same_token_kind t.kind kinds.Name ≡ true = and_first (is_token kinds.Mark (codes "(") u && same_token_kind t.kind kinds.Name) (not (is_token kinds.Name (codes "IN") t)) h in
-    before-mark t u 40 more (stops-mark 40 refl refl refl refl) (and_first (is_token kinds.Mark (codes "(") u) (same_token_kind t.kind kinds.Name) opens)
+    let opens : is_token kinds.Mark (codes "(") u && same_token_kind t.kind kinds.Name ≡ true = (and_parts (is_token kinds.Mark (codes "(") u && same_token_kind t.kind kinds.Name) (not (is_token kinds.Name (codes "IN") t)) h).0 in
+    before-mark t u 40 more (stops-mark 40 refl refl refl refl) (and_parts (is_token kinds.Mark (codes "(") u) (same_token_kind t.kind kinds.Name) opens).0
 
 joined-negative : (t u : Token) (more : List ℕ) → IsSpelled u → is_negative t u ≡ true → begins (goes t.kind t.text) (written_token u ++ more) ≡ false
 joined-negative t u more spelled h =
-    number-behind t u.kind u.text more spelled (kind-is u.kind kinds.Number (and_later (is_token kinds.Mark (codes "-") t) (same_token_kind u.kind kinds.Number) h)) (and_first (is_token kinds.Mark (codes "-") t) (same_token_kind u.kind kinds.Number) h)
+    number-behind t u.kind u.text more spelled (kind-is u.kind kinds.Number (and_parts (is_token kinds.Mark (codes "-") t) (same_token_kind u.kind kinds.Number) h).1) (and_parts (is_token kinds.Mark (codes "-") t) (same_token_kind u.kind kinds.Number) h).0
 
 joined : (t u : Token) (more : List ℕ) → IsSpelled u → is_joined t u ≡ true → begins (goes t.kind t.text) (written_token u ++ more) ≡ false
 joined t u more spelled h =

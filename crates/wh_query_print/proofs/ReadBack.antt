@@ -1,5 +1,5 @@
 -- Each rule of a query reads back the tokens of what can be written.
-use Rattle.std.proofs.Common.{◌≡◌, ℕ, ◌<◌, ◌^◌, suc, List, ◌∷◌, ◌++◌, refl, ap, sym, append_assoc, true, false, Bool, ◌||◌, subst, Option, Some, None}
+use Rattle.std.proofs.Common.{◌≡◌, ℕ, ◌<◌, ◌^◌, suc, List, ◌∷◌, ◌++◌, refl, ap, sym, append_assoc, true, false, Bool, subst, Option, Some, None}
 use Rattle.std.specs.Prelude.{codes, decimal, neg_ℤ, negsuc, option_map, pos, ℤ}
 use Rattle.wh_base.proofs.Calendar.{names_its_day}
 use Rattle.wh_base.specs.Lists.{has_text, same_text}
@@ -65,10 +65,6 @@ literal-read (Dated n) h ts = ap (λ o. option_map (λ l. (l, ts)) (option_map D
 pub record AfterColumn (ts : List Token) : Type 0 where
   pub dot : mark (codes ".") ts ≡ None
   pub opening : mark (codes "(") ts ≡ None
-
-or-none : (p q : Bool) → (p || q) ≡ false → (p ≡ false) × (q ≡ false)
-or-none true q h = cc
-or-none false q h = (refl, h)
 
 other-by : (ws : List (List ℕ)) (w n : List ℕ) → has_text ws n ≡ false → has_text ws w ≡ true → same_text n w ≡ false
 other-by ws w n kept is = by (same_text n w) refl

@@ -1,5 +1,6 @@
 -- What each rule of a query gives can be written.
 use Rattle.std.proofs.Common.{◌≡◌, ℕ, ◌<◌, ◌^◌, suc, zero, List, [], ◌∷◌, ◌++◌, length, refl, subst, arith, true, false, Bool, ◌&&◌, map, Option, Some, None}
+use Rattle.std.proofs.lemmas.Bool.{not-true}
 use Rattle.std.proofs.lemmas.Bool.Decides.{nat_tests}
 use Rattle.std.specs.Prelude.{codes, nat_lt, neg_ℤ, not, option_map, pos, unwrap_or, ℤ}
 use Rattle.wh_base.proofs.Calendar.{is_its_text}
@@ -41,10 +42,6 @@ use Rattle.wh_query_print.specs.Kept.{unplaced}
 use Rattle.wh_query_print.proofs.Sound.{Alike, Along, Blind, Sound, bind-sound, bracketed-sound, const-sound, gives-sound, listed-sound, made-sound, many-sound, mapped-sound, mark-blind, maybe-blind, maybe-sound, optional-sound, or-sound, then-blind, then-sound, word-blind}
 
 -- ---- names, numbers and texts
-
-not-true : (b : Bool) → not b ≡ true → b ≡ false
-not-true true h = cc
-not-true false h = refl
 
 name-at : (kind : TokenKind) (text : List ℕ) (start end : ℕ) (ts : List Token) (b : Bool) → (same_token_kind kind kinds.Name && not (has_text reserved text)) ≡ b → is_spelling kind text ≡ true → Each IsSpelled ts
     → Alike IsName (option_map {T = Token × List Token} (λ p. (p.0.text, p.1)) (where_true b (record { kind = kind; text = text; start = start; end = end }, ts)))

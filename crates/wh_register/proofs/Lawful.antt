@@ -1,5 +1,6 @@
 -- The laws of the register.
 use Rattle.std.proofs.Common.{◌≡◌, ◌≢◌, ◌∙◌, ◌⊎◌, ◌&&◌, sym, ap, subst, refl, arith, inl, inr, ℕ, Bool, true, false, cond, List, [], ◌∷◌, map, Option, None, Some, T, nat_eq}
+use Rattle.std.proofs.lemmas.Option.{same_Some}
 use Rattle.std.specs.FinMap as fin
 use Rattle.std.specs.List.{All, cons_option, filter, filter_map}
 use Rattle.std.specs.Ordering.{eq_by_cmp, is_lt, nat_cmp}
@@ -12,7 +13,7 @@ use Rattle.def_history.specs.Logs as logs
 use Rattle.wh_register.specs.Laws.{Laws, StandsFor, room_of}
 use Rattle.wh_register.specs.Register.{Rooms, least_point, point_over}
 use Rattle.wh_register.specs.declared.register.Room.{Room}
-use Rattle.wh_register.proofs.Leasts.{Member, all_member, from_mapped, mapped, same_least, some_same}
+use Rattle.wh_register.proofs.Leasts.{Member, all_member, from_mapped, mapped, same_least}
 
 -- ---- the entries of a map
 
@@ -32,7 +33,7 @@ found_member [] k r h = cc
 found_member (e ∷ es) k r h = by (eq_by_cmp nat_cmp k e.0) h (found_member es k r)
   where
     by : (b : Bool) → cond b (Some e.1) (fin.find nat_cmp k es) ≡ Some r → (fin.find nat_cmp k es ≡ Some r → (q : ℕ) × Member (q, r) es) → (q : ℕ) × Member (q, r) (e ∷ es)
-    by true g more = (e.0, inl (λ i. (e.0, some_same r e.1 (sym g) i)))
+    by true g more = (e.0, inl (λ i. (e.0, same_Some r e.1 (sym g) i)))
     by false g more = let found = more g in (found.0, inr found.1)
 
 key_itself : (k : ℕ) → eq_by_cmp nat_cmp k k ≡ true
@@ -118,7 +119,7 @@ module _ (c : Catalog) (rooms : Rooms) (table : ℕ) (stands : StandsFor rooms c
       elim (pick entry.0 c.views) [
         | inl v ↦
             let held : fin.get rooms v.0.def.view ≡ Some (room_of v.0) = all_member (λ v. fin.get rooms v.def.view ≡ Some (room_of v)) c.views v.0 stands.held v.1 in
-            let same : room_of v.0 ≡ room.0 = some_same (room_of v.0) room.0 (sym held ∙ ap (fin.get rooms) v.2 ∙ has) in
+            let same : room_of v.0 ≡ room.0 = same_Some (room_of v.0) room.0 (sym held ∙ ap (fin.get rooms) v.2 ∙ has) in
             mapped (λ v. point_over table (room_of v)) c.views v.0 p v.1 (ap (point_over table) same ∙ room.2)
         | inr none ↦ absurd (no_point table room.0 p (stands.others entry.0 room.0 has none) room.2)
       ]

@@ -1,5 +1,6 @@
 -- Lists with the same members have the same least number.
 use Rattle.std.proofs.Common.{◌≡◌, ◌∙◌, ◌≤◌, ◌⊎◌, sym, ap, subst, refl, arith, inl, inr, ℕ, Bool, true, false, cond, List, [], ◌∷◌, Option, None, Some, nat_lt}
+use Rattle.std.proofs.lemmas.Option.{same_Some}
 use Rattle.std.specs.List.{All, cons_option, filter_map}
 use Rattle.std.proofs.lemmas.Bool.Decides.{nat_tests}
 use Rattle.std.proofs.lemmas.List.Elements.{All-head, All-tail}
@@ -16,9 +17,6 @@ all_member P (y ∷ ys) x h m = elim m [ inl e ↦ subst P (sym e) (All-head P y
 
 -- ---- the members of what `filter_map` gives
 
-pub some_same : {A : Type 0} (x y : A) → Some x ≡ Some y → x ≡ y
-some_same x y e = cc
-
 module _ {A B : Type 0} (h : A → Option B) where
   pub mapped : (xs : List A) (x : A) (y : B) → Member x xs → h x ≡ Some y → Member y (filter_map h xs)
   mapped [] x y m e = absurd m
@@ -29,7 +27,7 @@ module _ {A B : Type 0} (h : A → Option B) where
         where
           none_some : (y : B) → None ≡ Some y → ⊥
           none_some y e = cc
-      by (Some w) g m more = elim m [ inl same ↦ inl (some_same y w (sym e ∙ ap h same ∙ g)) | inr later ↦ inr (more later e) ]
+      by (Some w) g m more = elim m [ inl same ↦ inl (same_Some y w (sym e ∙ ap h same ∙ g)) | inr later ↦ inr (more later e) ]
 
   pub from_mapped : (xs : List A) (y : B) → Member y (filter_map h xs) → (x : A) × Member x xs × (h x ≡ Some y)
   from_mapped [] y m = absurd m

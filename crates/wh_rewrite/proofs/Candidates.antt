@@ -1,5 +1,6 @@
 -- Which views are candidates, by what their image stores.
 use Rattle.std.proofs.Common.{◌≡◌, ◌∙◌, sym, ap, refl, cond, not, true, false, Bool, ℕ, ◌&&◌, ◌||◌, List, [], ◌∷◌, Option, None, Some, is_none, is_some, length, option_and_then}
+use Rattle.std.proofs.Math.Bool.{and_assoc}
 use Rattle.std.specs.List.{list_all}
 use Rattle.wh_base.specs.Lists.{first_some, option_case, where_true}
 use Rattle.wh_base.specs.declared.queries.StarQuery.{StarQuery}
@@ -97,10 +98,6 @@ enough_seen : (c : Catalog) (q : StarQuery) (v : View) (unbuilt still : Bool) �
 enough_seen c q v true still = refl
 enough_seen c q v false true = refl
 enough_seen c q v false false = refl
-
-and_assoc : (a b d : Bool) → ((a && b) && d) ≡ (a && (b && d))
-and_assoc true b d = refl
-and_assoc false b d = refl
 
 module _ (scn : ℕ) (tables : List Stored) (views : AllKept) (c : Catalog) (stands : StandsFor scn tables views c) (q : StarQuery) (text : List Token) (level : Level) (enabled : Bool) where
   e8_is : (v : View) → IsWhole v → holds_e8 c q level [] v ≡ (not (asks_freshness level) || is_fresh (seen_state tables v))

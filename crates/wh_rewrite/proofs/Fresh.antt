@@ -1,5 +1,6 @@
 -- The state of a view in a catalog, by what its image stores.
 use Rattle.std.proofs.Common.{◌≡◌, ◌∙◌, sym, ap, refl, subst, arith, cond, not, true, false, true≢false, zero, suc, Bool, ℕ, ◌<◌, ◌≤◌, ◌&&◌, ◌||◌, ◌==◌, List, [], ◌∷◌, Option, None, Some, find, filter, is_none, is_some, map, nat_le, slice_get, zip}
+use Rattle.std.proofs.lemmas.Option.{none-some, same_Some}
 use Rattle.std.specs.List.{All, list_all, list_any}
 use Rattle.std.proofs.lemmas.Bool.Decides.{nat_tests}
 use Rattle.std.proofs.lemmas.List.Elements.{All-head, All-tail}
@@ -118,15 +119,9 @@ state_is scn tables views c stands v whole =
 abbrev pub IsWhole : View → Type 0
 IsWhole v = All (λ d. d.part_key ≡ None) v.def.tables
 
-none_not_some : {A : Type 0} (x : A) → None ≡ Some x → ⊥
-none_not_some x e = cc
-
-some_same : {A : Type 0} (x y : A) → Some x ≡ Some y → x ≡ y
-some_same x y e = cc
-
 whole_at : (ks : List Kept) (n : ℕ) (k : Kept) → All IsWhole (map (λ j. j.view) ks) → slice_get ks n ≡ Some k → IsWhole k.view
-whole_at [] n k all e = absurd (none_not_some k e)
-whole_at (j ∷ ks) zero k all e = subst (λ x. IsWhole x.view) (some_same j k e) (All-head IsWhole j.view (map (λ x. x.view) ks) all)
+whole_at [] n k all e = absurd (none-some k e)
+whole_at (j ∷ ks) zero k all e = subst (λ x. IsWhole x.view) (same_Some j k e) (All-head IsWhole j.view (map (λ x. x.view) ks) all)
 whole_at (j ∷ ks) (suc n) k all e = whole_at ks n k (All-tail IsWhole j.view (map (λ x. x.view) ks) all) e
 
 pub all_whole : (scn : ℕ) (tables : List Stored) (views : AllKept) (c : Catalog) → StandsFor scn tables views c → All IsWhole (map (λ k. k.view) views.views)

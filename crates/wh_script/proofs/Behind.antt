@@ -1,6 +1,6 @@
 -- What stands behind the end of a script, and a script without an end.
 use Rattle.std.proofs.Common.{◌≡◌, ℕ, ◌≤◌, ◌<◌, ◌+◌, ◌-◌, suc, List, [], ◌∷◌, length, drop, get_or, Bool, true, false, Option, Some, None, cond, is_none, refl, ap, sym, ◌∙◌, arith, ◌&&◌, ◌||◌, add-zero, max}
-use Rattle.std.proofs.lemmas.Bool.{and_from, and_parts}
+use Rattle.std.proofs.lemmas.Bool.{and_from, and_parts, or_right}
 use Rattle.std.proofs.lemmas.List.{drop_all, drop_more, get_or-drop}
 use Rattle.std.proofs.lemmas.Str.{utf8_valid_len_le, utf8_valid_len-IsUtf8}
 use Rattle.std.specs.Prelude.{◌==◌, count_by, not, unwrap_or}
@@ -43,10 +43,6 @@ pub ruleset valid = (utf8_valid_len_le, utf8_valid_len-IsUtf8)
 
 -- ---- the script that was read
 
-or_there : (p q : Bool) → q ≡ true → (p || q) ≡ true
-or_there true q h = refl
-or_there false q h = h
-
 -- a draft that is built makes a script that is built
 pub finish-built : (d : Draft) (s : Script) → s ≡ record { sections = sections_of d; order = unwrap_or d.order []; workers = unwrap_or d.workers 0 } → draft_is_built d ≡ true → script_is_built s ≡ true
 finish-built d s e h =
@@ -57,11 +53,11 @@ finish-built d s e h =
   where
     by_order : (o : Option (List ℕ)) → (is_none o || is_built forms.Order) ≡ true → (is_empty (unwrap_or o []) || is_built forms.Order) ≡ true
     by_order None k = refl
-    by_order (Some ns) k = or_there (is_empty ns) (is_built forms.Order) k
+    by_order (Some ns) k = or_right (is_empty ns) (is_built forms.Order) k
 
     by_workers : (o : Option ℕ) → (is_none o || is_built forms.Workers) ≡ true → ((unwrap_or o 0 == 0) || is_built forms.Workers) ≡ true
     by_workers None k = refl
-    by_workers (Some n) k = or_there (n == 0) (is_built forms.Workers) k
+    by_workers (Some n) k = or_right (n == 0) (is_built forms.Workers) k
 
 pub ruleset finishes = (finish-built)
 

@@ -1,5 +1,6 @@
 -- Whether commands are built with one more.
 use Rattle.std.proofs.Common.{◌≡◌, List, [], ◌∷◌, ◌++◌, Bool, true, false, refl, ap, sym, subst, ◌∙◌, ◌&&◌}
+use Rattle.std.proofs.Math.Bool.{and-true}
 use Rattle.std.specs.List.{list_all}
 use Rattle.def_built.specs.Commands.{command_is_built, commands_are_built}
 use Rattle.wh_base.specs.declared.statements.Command.{Command}
@@ -10,12 +11,8 @@ but_last-end [] y = refl
 but_last-end (x ∷ []) y = refl
 but_last-end (x ∷ z ∷ xs) y = ap (λ zs. x ∷ zs) (but_last-end (z ∷ xs) y)
 
-both_true : (b : Bool) → (b && true) ≡ b
-both_true true = refl
-both_true false = refl
-
 pub all_more : {A : Type 0} (p : A → Bool) (xs : List A) (y : A) → list_all p (xs ++ y ∷ []) ≡ (list_all p xs && p y)
-all_more p [] y = both_true (p y)
+all_more p [] y = and-true (p y)
 all_more p (x ∷ xs) y = by_test (p x) (all_more p xs y)
   where
     by_test : (b : Bool) → list_all p (xs ++ y ∷ []) ≡ (list_all p xs && p y) → (b && list_all p (xs ++ y ∷ [])) ≡ ((b && list_all p xs) && p y)

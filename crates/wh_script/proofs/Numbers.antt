@@ -1,5 +1,6 @@
 -- Session numbers and the one or two digits that they are.
 use Rattle.std.proofs.Common.{◌≡◌, ℕ, ◌≤◌, ◌<◌, ◌+◌, suc, zero, List, Bool, true, false, Option, Some, None, refl, ap, sym, subst, ◌∙◌, arith}
+use Rattle.std.proofs.lemmas.Bool.{and_parts}
 use Rattle.std.proofs.lemmas.Slice.Eq.{bytes_eq-Decides}
 use Rattle.std.proofs.lemmas.Bool.Decides.{nat_tests}
 use Rattle.std.specs.Fmt.{digits}
@@ -18,21 +19,13 @@ all_read_back : list_all reads_back (count_from 1 64) ≡ true
 unfolding digits
 all_read_back = refl
 
-left_of : (p q : Bool) → (p && q) ≡ true → p ≡ true
-left_of true q h = refl
-left_of false q h = cc
-
-right_of : (p q : Bool) → (p && q) ≡ true → q ≡ true
-right_of true q h = h
-right_of false q h = cc
-
 -- what holds of the numbers from one on holds of each of them
 among : (p : ℕ → Bool) (start k : ℕ) → list_all p (count_from start k) ≡ true → (n : ℕ) → start ≤ n → n < start + k → p n ≡ true
 among p start zero h n low high = absurd (omega (arith, low, high))
-among p start (suc k) h n low high = by_test (start == n) refl (among p (suc start) k (right_of (p start) _ h) n)
+among p start (suc k) h n low high = by_test (start == n) refl (among p (suc start) k (and_parts (p start) _ h).1 n)
   where
     by_test : (t : Bool) → (start == n) ≡ t → (suc start ≤ n → n < suc start + k → p n ≡ true) → p n ≡ true
-    by_test true e more = let same : start ≡ n = grind (arith, nat_tests, e) in subst (λ m. p m ≡ true) same (left_of (p start) _ h)
+    by_test true e more = let same : start ≡ n = grind (arith, nat_tests, e) in subst (λ m. p m ≡ true) same (and_parts (p start) _ h).0
     by_test false e more = let other : suc start ≤ n = grind (arith, nat_tests, e, low) in more other (omega (arith, high))
 
 reads : (n : ℕ) → 1 ≤ n → n ≤ 64 → reads_back n ≡ true
@@ -49,16 +42,16 @@ pub record IsSession (n : ℕ) (w : List ℕ) : Type 0 where
 
 is_session-means : (n : ℕ) (w : List ℕ) → is_session n w ≡ true → IsSession n w
 is_session-means n w h =
-    let bounds : (nat_le 1 n && nat_le n 64) ≡ true = left_of (nat_le 1 n && nat_le n 64) (same_text (decimal n) w) h in
-    let low_test : nat_le 1 n ≡ true = left_of (nat_le 1 n) (nat_le n 64) bounds in
-    let high_test : nat_le n 64 ≡ true = right_of (nat_le 1 n) (nat_le n 64) bounds in
+    let bounds : (nat_le 1 n && nat_le n 64) ≡ true = (and_parts (nat_le 1 n && nat_le n 64) (same_text (decimal n) w) h).0 in
+    let low_test : nat_le 1 n ≡ true = (and_parts (nat_le 1 n) (nat_le n 64) bounds).0 in
+    let high_test : nat_le n 64 ≡ true = (and_parts (nat_le 1 n) (nat_le n 64) bounds).1 in
     let low : 1 ≤ n = grind (arith, nat_tests, low_test) in
     let high : n ≤ 64 = grind (arith, nat_tests, high_test) in
-    let same : decimal n ≡ w = (bytes_eq-Decides (decimal n) w).0 (right_of (nat_le 1 n && nat_le n 64) (same_text (decimal n) w) h) in
+    let same : decimal n ≡ w = (bytes_eq-Decides (decimal n) w).0 (and_parts (nat_le 1 n && nat_le n 64) (same_text (decimal n) w) h).1 in
     let all : reads_back n ≡ true = reads n low high in
-    let both : (two_digits (decimal n) == n) ≡ true = left_of (two_digits (decimal n) == n) (option_nat_is (session_number (decimal n)) n) all in
+    let both : (two_digits (decimal n) == n) ≡ true = (and_parts (two_digits (decimal n) == n) (option_nat_is (session_number (decimal n)) n) all).0 in
     let digits : two_digits (decimal n) ≡ n = grind (arith, nat_tests, both) in
-    subst (IsSession n) same (record { digits = digits; reads = some_is (session_number (decimal n)) n (right_of (two_digits (decimal n) == n) _ all) })
+    subst (IsSession n) same (record { digits = digits; reads = some_is (session_number (decimal n)) n (and_parts (two_digits (decimal n) == n) _ all).1 })
 
 where_some : (b : Bool) (n m : ℕ) → where_true b n ≡ Some m → (b ≡ true) × (n ≡ m)
 where_some true n m h = (refl, search (h))

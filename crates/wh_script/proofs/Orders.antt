@@ -1,6 +1,6 @@
 -- The words of an order, the parts of a session, and how often each is named.
 use Rattle.std.proofs.Common.{◌≡◌, ℕ, ◌<◌, ◌+◌, suc, zero, List, [], ◌∷◌, ◌++◌, length, Bool, true, false, Some, None, Ok, cond, refl, ap, sym, subst, ◌∙◌, arith, append-nil, append_assoc, ◌⊎◌, get_or, inl, inr, Result, Err}
-use Rattle.std.proofs.lemmas.Bool.{ltb-true}
+use Rattle.std.proofs.lemmas.Bool.{and_from, and_parts, false_from_ne_true, ltb-true, not-false}
 use Rattle.std.proofs.lemmas.Bool.Decides.{nat_tests}
 use Rattle.std.specs.List.{enumerate_from, list_any}
 use Rattle.std.specs.Prelude.{◌==◌, ◌&&◌, ◌||◌, count_by, flat_map, is_none, map, not, option_to_list}
@@ -111,26 +111,6 @@ bool_same true b f g = sym (f refl)
 bool_same false true f g = g refl
 bool_same false false f g = refl
 
-left_of : (p q : Bool) → (p && q) ≡ true → p ≡ true
-left_of true q h = refl
-left_of false q h = cc
-
-right_of : (p q : Bool) → (p && q) ≡ true → q ≡ true
-right_of true q h = h
-right_of false q h = cc
-
-both_of : (p q : Bool) → p ≡ true → q ≡ true → (p && q) ≡ true
-both_of true q h k = k
-both_of false q h k = cc
-
-not_false : (b : Bool) → not b ≡ false → b ≡ true
-not_false true h = refl
-not_false false h = cc
-
-false_of : (b : Bool) → (b ≡ true → ⊥) → b ≡ false
-false_of true h = absurd (h refl)
-false_of false h = refl
-
 -- a session that is named too often is named
 named : (sections : List Section) (ns : List ℕ) (n : ℕ) → is_too_long sections ns n ≡ true → Among n ns
 named sections ns n h = let less : parts_in sections n < count_by (λ m. m == n) ns = ltb-true (parts_in sections n) (count_by (λ m. m == n) ns) h in counted n ns (omega (arith, less))
@@ -141,23 +121,23 @@ too_long-by_section sections ns known = bool_same _ _ to from
     to : list_any (is_named_too_often sections ns) sections ≡ true → list_any (is_too_long sections ns) ns ≡ true
     to h =
         let found = any_found (is_named_too_often sections ns) sections h in
-        let long : is_too_long sections ns (found.0).session ≡ true = right_of (not ((found.0).session == 0)) (is_too_long sections ns (found.0).session) found.2 in
+        let long : is_too_long sections ns (found.0).session ≡ true = (and_parts (not ((found.0).session == 0)) (is_too_long sections ns (found.0).session) found.2).1 in
         any_here (is_too_long sections ns) ns (found.0).session (named sections ns (found.0).session long) long
 
     here : (n : ℕ) → Among n ns → list_any (is_section_of n) sections ≡ true
     here n among =
-        let no : is_unknown sections n ≡ false = false_of (is_unknown sections n) (λ e. let all : list_any (is_unknown sections) ns ≡ true = any_here (is_unknown sections) ns n among e in cc) in
-        not_false (list_any (is_section_of n) sections) no
+        let no : is_unknown sections n ≡ false = false_from_ne_true (is_unknown sections n) (λ e. let all : list_any (is_unknown sections) ns ≡ true = any_here (is_unknown sections) ns n among e in cc) in
+        not-false (list_any (is_section_of n) sections) no
 
     from : list_any (is_too_long sections ns) ns ≡ true → list_any (is_named_too_often sections ns) sections ≡ true
     from h =
         let found = any_found (is_too_long sections ns) ns h in
         let section = any_found (is_section_of found.0) sections (here found.0 found.1) in
-        let test : ((section.0).session == found.0) ≡ true = left_of ((section.0).session == found.0) (not (found.0 == 0)) section.2 in
+        let test : ((section.0).session == found.0) ≡ true = (and_parts ((section.0).session == found.0) (not (found.0 == 0)) section.2).0 in
         let same : (section.0).session ≡ found.0 = grind (arith, nat_tests, test) in
-        let some : not (found.0 == 0) ≡ true = right_of ((section.0).session == found.0) (not (found.0 == 0)) section.2 in
+        let some : not (found.0 == 0) ≡ true = (and_parts ((section.0).session == found.0) (not (found.0 == 0)) section.2).1 in
         any_here (is_named_too_often sections ns) sections section.0 section.1
-        (subst (λ n. (not (n == 0) && is_too_long sections ns n) ≡ true) (sym same) (both_of (not (found.0 == 0)) (is_too_long sections ns found.0) some found.2))
+        (subst (λ n. (not (n == 0) && is_too_long sections ns n) ≡ true) (sym same) (and_from (not (found.0 == 0)) (is_too_long sections ns found.0) some found.2))
 
 pub ruleset sections = (too_long-by_section)
 

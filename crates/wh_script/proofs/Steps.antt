@@ -1,5 +1,6 @@
 -- What was made of a draft that is built is built before its last command or section, and whether it is built with it.
-use Rattle.std.proofs.Common.{◌≡◌, ℕ, List, [], ◌∷◌, ◌++◌, Bool, true, false, Option, Some, None, Result, Ok, Err, cond, refl, ap, sym, subst, ◌∙◌, ◌&&◌, ◌||◌, append-nil}
+use Rattle.std.proofs.Common.{◌≡◌, ℕ, List, [], ◌∷◌, ◌++◌, Bool, true, false, Option, Some, None, Ok, Err, cond, refl, ap, sym, subst, ◌∙◌, ◌&&◌, ◌||◌, append-nil}
+use Rattle.std.proofs.lemmas.Bool.{and_from, and_parts}
 use Rattle.std.specs.List.{list_all, list_any}
 use Rattle.std.specs.Prelude.{◌==◌, codes, is_none, map, not, option_map, option_to_list}
 use Rattle.def_built.specs.Commands.{command_is_built, commands_are_built}
@@ -19,41 +20,29 @@ use Rattle.wh_base.specs.declared.tokens.Token.{Token}
 use Rattle.wh_script.proofs.LastCommands.{all_more, but_last-end}
 use Rattle.wh_script.specs.Built.{IsBuiltBefore, but_last, may_stand, shorter_last, shorter_section}
 
-left_of : (p q : Bool) → (p && q) ≡ true → p ≡ true
-left_of true q h = refl
-left_of false q h = cc
-
-right_of : (p q : Bool) → (p && q) ≡ true → q ≡ true
-right_of true q h = h
-right_of false q h = cc
-
-both_of : (p q : Bool) → p ≡ true → q ≡ true → (p && q) ≡ true
-both_of true q h k = k
-both_of false q h k = cc
-
 -- ---- the last section
 
 -- all of some sections before others that are built
 all_before : (bs : List Section) (b : Section) (cs : List Section) → sections_are_built ((b ∷ bs) ++ cs) ≡ true → list_all section_is_built (b ∷ bs) ≡ true
-all_before [] b [] h = both_of (section_is_built b) true h refl
+all_before [] b [] h = and_from (section_is_built b) true h refl
 all_before [] b (c ∷ cs) h =
-    let all : (section_is_built b && list_all section_is_built (c ∷ cs)) ≡ true = right_of (is_built forms.Session) _ h in
-    both_of (section_is_built b) true (left_of (section_is_built b) (list_all section_is_built (c ∷ cs)) all) refl
-all_before (x ∷ xs) b cs h = front (b ∷ x ∷ xs) cs (right_of (is_built forms.Session) _ h)
+    let all : (section_is_built b && list_all section_is_built (c ∷ cs)) ≡ true = (and_parts (is_built forms.Session) _ h).1 in
+    and_from (section_is_built b) true (and_parts (section_is_built b) (list_all section_is_built (c ∷ cs)) all).0 refl
+all_before (x ∷ xs) b cs h = front (b ∷ x ∷ xs) cs (and_parts (is_built forms.Session) _ h).1
   where
     front : (es ds : List Section) → list_all section_is_built (es ++ ds) ≡ true → list_all section_is_built es ≡ true
     front [] ds k = refl
     front (e ∷ es) ds k =
-        both_of (section_is_built e) (list_all section_is_built es) (left_of (section_is_built e) (list_all section_is_built (es ++ ds)) k)
-        (front es ds (right_of (section_is_built e) (list_all section_is_built (es ++ ds)) k))
+        and_from (section_is_built e) (list_all section_is_built es) (and_parts (section_is_built e) (list_all section_is_built (es ++ ds)) k).0
+        (front es ds (and_parts (section_is_built e) (list_all section_is_built (es ++ ds)) k).1)
 
 last_built : (before : List Section) (s : Section) → sections_are_built (before ++ s ∷ []) ≡ true → section_is_built s ≡ true
 last_built [] s h = h
-last_built (b ∷ bs) s h = right_of (list_all section_is_built (b ∷ bs)) (section_is_built s) (sym (all_more section_is_built (b ∷ bs) s) ∙ all bs h)
+last_built (b ∷ bs) s h = (and_parts (list_all section_is_built (b ∷ bs)) (section_is_built s) (sym (all_more section_is_built (b ∷ bs) s) ∙ all bs h)).1
   where
     all : (xs : List Section) → sections_are_built ((b ∷ xs) ++ s ∷ []) ≡ true → list_all section_is_built ((b ∷ xs) ++ s ∷ []) ≡ true
-    all [] k = right_of (is_built forms.Session) _ k
-    all (x ∷ xs) k = right_of (is_built forms.Session) _ k
+    all [] k = (and_parts (is_built forms.Session) _ k).1
+    all (x ∷ xs) k = (and_parts (is_built forms.Session) _ k).1
 
 -- the commands before the last one
 pub section-commands : (before : List Section) (s : Section) → sections_are_built (before ++ shorter_section s.session s.commands) ≡ true → commands_are_built (but_last s.commands) ≡ true
@@ -61,7 +50,7 @@ section-commands before s h = by_commands s.commands h
   where
     by_commands : (cs : List Command) → sections_are_built (before ++ shorter_section s.session cs) ≡ true → commands_are_built (but_last cs) ≡ true
     by_commands [] k = refl
-    by_commands (c ∷ cs) k = right_of ((s.session == 0) || is_built forms.Session) (commands_are_built (but_last (c ∷ cs))) (last_built before _ k)
+    by_commands (c ∷ cs) k = (and_parts ((s.session == 0) || is_built forms.Session) (commands_are_built (but_last (c ∷ cs))) (last_built before _ k)).1
 
 session_twice : (session setup rest : Bool) → (session && ((setup || session) && rest)) ≡ (session && rest)
 session_twice true true rest = refl
@@ -90,22 +79,22 @@ pub ruleset sections = (section-commands, section-built, section-last, append-ni
 
 all_but_last : {A : Type 0} (p : A → Bool) (x : A) (xs : List A) → list_all p (x ∷ xs) ≡ true → list_all p (but_last (x ∷ xs)) ≡ true
 all_but_last p x [] h = refl
-all_but_last p x (y ∷ ys) h = both_of (p x) (list_all p (but_last (y ∷ ys))) (left_of (p x) (list_all p (y ∷ ys)) h) (all_but_last p y ys (right_of (p x) (list_all p (y ∷ ys)) h))
+all_but_last p x (y ∷ ys) h = and_from (p x) (list_all p (but_last (y ∷ ys))) (and_parts (p x) (list_all p (y ∷ ys)) h).0 (all_but_last p y ys (and_parts (p x) (list_all p (y ∷ ys)) h).1)
 
 commands_before : (c : Command) (cs : List Command) → commands_are_built (c ∷ cs) ≡ true → commands_are_built (but_last (c ∷ cs)) ≡ true
 commands_before c cs h = all_but_last command_is_built c cs h
 
 section_before : (n : ℕ) (c : Command) (cs : List Command) → section_is_built (record { session = n; commands = c ∷ cs }) ≡ true → section_is_built (record { session = n; commands = but_last (c ∷ cs) }) ≡ true
 section_before n c cs h =
-    both_of ((n == 0) || is_built forms.Session) _ (left_of ((n == 0) || is_built forms.Session) (commands_are_built (c ∷ cs)) h)
-    (commands_before c cs (right_of ((n == 0) || is_built forms.Session) (commands_are_built (c ∷ cs)) h))
+    and_from ((n == 0) || is_built forms.Session) _ (and_parts ((n == 0) || is_built forms.Session) (commands_are_built (c ∷ cs)) h).0
+    (commands_before c cs (and_parts ((n == 0) || is_built forms.Session) (commands_are_built (c ∷ cs)) h).1)
 
 -- the sections before the last one, which is built too
 sections_front : (before : List Section) (s : Section) → sections_are_built (before ++ s ∷ []) ≡ true → sections_are_built before ≡ true
 sections_front [] s h = refl
-sections_front (b ∷ []) s h = left_of (section_is_built b) (section_is_built s && true) (right_of (is_built forms.Session) (section_is_built b && (section_is_built s && true)) h)
+sections_front (b ∷ []) s h = (and_parts (section_is_built b) (section_is_built s && true) (and_parts (is_built forms.Session) (section_is_built b && (section_is_built s && true)) h).1).0
 sections_front (b ∷ x ∷ xs) s h =
-    both_of (is_built forms.Session) (list_all section_is_built (b ∷ x ∷ xs)) (left_of (is_built forms.Session) (list_all section_is_built ((b ∷ x ∷ xs) ++ s ∷ [])) h)
+    and_from (is_built forms.Session) (list_all section_is_built (b ∷ x ∷ xs)) (and_parts (is_built forms.Session) (list_all section_is_built ((b ∷ x ∷ xs) ++ s ∷ [])) h).0
     (all_before (x ∷ xs) b (s ∷ []) h)
 
 -- another last section that is built
@@ -114,8 +103,8 @@ sections_last [] s t h k = k
 sections_last (b ∷ bs) s t h k = by_sections bs h (all_before bs b (s ∷ []) h)
   where
     by_sections : (xs : List Section) → sections_are_built ((b ∷ xs) ++ s ∷ []) ≡ true → list_all section_is_built (b ∷ xs) ≡ true → sections_are_built ((b ∷ xs) ++ t ∷ []) ≡ true
-    by_sections [] e f = both_of (is_built forms.Session) (list_all section_is_built (b ∷ t ∷ [])) (left_of (is_built forms.Session) (list_all section_is_built (b ∷ s ∷ [])) e) (all_more section_is_built (b ∷ []) t ∙ both_of (list_all section_is_built (b ∷ [])) (section_is_built t) f k)
-    by_sections (x ∷ xs) e f = both_of (is_built forms.Session) (list_all section_is_built ((b ∷ x ∷ xs) ++ t ∷ [])) (left_of (is_built forms.Session) (list_all section_is_built ((b ∷ x ∷ xs) ++ s ∷ [])) e) (all_more section_is_built (b ∷ x ∷ xs) t ∙ both_of (list_all section_is_built (b ∷ x ∷ xs)) (section_is_built t) f k)
+    by_sections [] e f = and_from (is_built forms.Session) (list_all section_is_built (b ∷ t ∷ [])) (and_parts (is_built forms.Session) (list_all section_is_built (b ∷ s ∷ [])) e).0 (all_more section_is_built (b ∷ []) t ∙ and_from (list_all section_is_built (b ∷ [])) (section_is_built t) f k)
+    by_sections (x ∷ xs) e f = and_from (is_built forms.Session) (list_all section_is_built ((b ∷ x ∷ xs) ++ t ∷ [])) (and_parts (is_built forms.Session) (list_all section_is_built ((b ∷ x ∷ xs) ++ s ∷ [])) e).0 (all_more section_is_built (b ∷ x ∷ xs) t ∙ and_from (list_all section_is_built (b ∷ x ∷ xs)) (section_is_built t) f k)
 
 before_of : (before : List Section) (o : Option Section) → sections_are_built (before ++ option_to_list o) ≡ true → sections_are_built (before ++ shorter_last o) ≡ true
 before_of before None h = h
@@ -165,7 +154,7 @@ step_of : (P : Draft → Type 0) (r : Drafted) (e : Draft) → Each P r → r �
 step_of P r e h k = subst (Each P) k h
 
 sections_of_built : (d : Draft) → draft_is_built d ≡ true → sections_are_built (sections_of d) ≡ true
-sections_of_built d h = left_of (sections_are_built (sections_of d)) (views_are_built (sections_of d)) (left_of (sections_are_built (sections_of d) && views_are_built (sections_of d)) _ h)
+sections_of_built d h = (and_parts (sections_are_built (sections_of d)) (views_are_built (sections_of d)) (and_parts (sections_are_built (sections_of d) && views_are_built (sections_of d)) _ h).0).0
 
 module _ (d : Draft) (built : sections_are_built (sections_of d) ≡ true) where
   same : IsBuiltBefore d

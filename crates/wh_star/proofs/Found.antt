@@ -1,8 +1,9 @@
 -- Look-ups of keys find the tuples of the product that meet every join, in the order of the product.
 use Rattle.std.proofs.Common.{◌≡◌, ◌∙◌, sym, ap, subst, refl, arith, ℕ, suc, Bool, true, false, cond, not, List, [], ◌∷◌, ◌++◌, Option, ◌≤◌, length, map, get_or, append_assoc, length-append}
+use Rattle.std.proofs.lemmas.List.{append-nil}
 use Rattle.std.specs.List.{AllPairs, filter, filter_map, find, list_all}
 use Rattle.std.specs.Prelude.{◌&&◌, ◌||◌, ◌==◌}
-use Rattle.std.proofs.lemmas.Bool.{eq-eqb}
+use Rattle.std.proofs.lemmas.Bool.{and_parts, eq-eqb, not-true}
 use Rattle.wh_base.proofs.Same.{same_value-Decides}
 use Rattle.wh_base.proofs.Sorting.{times}
 use Rattle.wh_base.specs.Lists.{has_number}
@@ -16,8 +17,9 @@ use Rattle.wh_base.specs.declared.tables.TableDef.{TableDef}
 use Rattle.wh_base.specs.declared.values.Value.{Value}
 use Rattle.def_meaning.specs.Joined.{column_value, conditions_true, edge_true, joined_over, part_value, product, row_of}
 use Rattle.def_resolve.specs.Star.{is_key_column, leads_outwards}
+use Rattle.law_lists.proofs.Lists.{filter-filter, filter-map}
 use Rattle.wh_star.specs.Found.{AreKeys, HaveKeys, IsJoinTree, completed, found_over}
-use Rattle.wh_star.proofs.Products.{append_nothing, filter-both, filter-flat_map, filter-guard, filter-map, flat_map-listed, flat_map-one, flat_map-same, listed, listed-case, map-flat_map, map-map, times-filter, times-from_pairs}
+use Rattle.wh_star.proofs.Products.{filter-flat_map, filter-guard, flat_map-listed, flat_map-one, flat_map-same, listed, listed-case, map-flat_map, map-map, times-filter, times-from_pairs}
 
 -- ---- the rows of a tuple that grows
 
@@ -42,23 +44,11 @@ row_of-new (m ∷ ns) ms (s ∷ rs) r ss n h e = by (m == n) h (λ k. row_of-new
     by true h rest = cc
     by false h rest = rest h
 
--- ---- tests
-
-both_left : (a b : Bool) → (a && b) ≡ true → a ≡ true
-both_left true b h = refl
-both_left false b h = cc
-
-both_right : (a b : Bool) → (a && b) ≡ true → b ≡ true
-both_right true b h = h
-both_right false b h = cc
-
-not_true : (a : Bool) → not a ≡ true → a ≡ false
-not_true true h = cc
-not_true false h = refl
+-- ---- keys
 
 -- equal values that aren't NULL are one value
 pub one_value : (v w : Value) → equal_not_null v w ≡ true → v ≡ w
-one_value v w h = (same_value-Decides v w).0 (both_right (not (is_null v)) (same_value v w) h)
+one_value v w h = (same_value-Decides v w).0 (and_parts (not (is_null v)) (same_value v w) h).1
 
 -- at most one of the rows of a key has a value
 pub one_row : (part : ColPart) (rows : List RowAt) (v : Value) → AreKeys part rows → times (λ r. equal_not_null v (part_value r part)) rows ≤ 1
@@ -93,7 +83,7 @@ edge-next tables ms tuple r ss e size near far =
     let so_far : row_of (tables ++ e.to.table ∷ ms) (tuple ++ []) e.from.table ≡ row_of tables tuple e.from.table =
     row_of-kept tables (e.to.table ∷ ms) tuple [] e.from.table near size in
     let nothing : row_of (tables ++ e.to.table ∷ ms) (tuple ++ []) e.from.table ≡ row_of (tables ++ e.to.table ∷ ms) tuple e.from.table =
-    ap (λ rs. row_of (tables ++ e.to.table ∷ ms) rs e.from.table) (append_nothing tuple) in
+    ap (λ rs. row_of (tables ++ e.to.table ∷ ms) rs e.from.table) (append-nil tuple) in
     let from : row_of (tables ++ e.to.table ∷ ms) (tuple ++ r ∷ ss) e.from.table ≡ row_of (tables ++ e.to.table ∷ ms) tuple e.from.table =
     whole ∙ sym so_far ∙ nothing in
     let to : row_of (tables ++ e.to.table ∷ ms) (tuple ++ r ∷ ss) e.to.table ≡ r = row_of-new tables ms tuple r ss e.to.table far size in
@@ -142,23 +132,23 @@ pub completed-matching :
     (defs : List TableDef) (rows : ℕ → List RowAt) (tables : List ℕ) (tuple : List RowAt) (es : List Edge)
     → length tuple ≡ length tables → leads_outwards defs tables es ≡ true → HaveKeys es rows
     → matching rows tables tuple es ≡ listed (completed rows (tables ++ map (λ e. e.to.table) es) tuple es)
-completed-matching defs rows tables tuple [] size leads keys = ap (λ t. t ∷ []) (append_nothing tuple)
+completed-matching defs rows tables tuple [] size leads keys = ap (λ t. t ∷ []) (append-nil tuple)
 completed-matching defs rows tables tuple (e ∷ es) size leads keys =
     let further : List ℕ = map (λ d. d.to.table) es in
     let all : List (List RowAt) = product (map rows further) in
     let n : ℕ = e.to.table in
     let test : List RowAt → Bool = λ rest. edges_true (tables ++ n ∷ further) (tuple ++ rest) (e ∷ es) in
     let first : Bool = has_number tables e.from.table && (not (has_number tables n) && is_key_column defs e.to) in
-    let here : first ≡ true = both_left first (leads_outwards defs (tables ++ n ∷ []) es) leads in
-    let near : has_number tables e.from.table ≡ true = both_left (has_number tables e.from.table) (not (has_number tables n) && is_key_column defs e.to) here in
+    let here : first ≡ true = (and_parts first (leads_outwards defs (tables ++ n ∷ []) es) leads).0 in
+    let near : has_number tables e.from.table ≡ true = (and_parts (has_number tables e.from.table) (not (has_number tables n) && is_key_column defs e.to) here).0 in
     let outside : (not (has_number tables n) && is_key_column defs e.to) ≡ true =
-    both_right (has_number tables e.from.table) (not (has_number tables n) && is_key_column defs e.to) here in
-    let far : has_number tables n ≡ false = not_true (has_number tables n) (both_left (not (has_number tables n)) (is_key_column defs e.to) outside) in
+    (and_parts (has_number tables e.from.table) (not (has_number tables n) && is_key_column defs e.to) here).1 in
+    let far : has_number tables n ≡ false = not-true (has_number tables n) (and_parts (not (has_number tables n)) (is_key_column defs e.to) outside).0 in
     let meets : RowAt → Bool = λ r. equal_not_null (near_value tables further tuple e) (part_value r e.to.part) in
     let then : RowAt → Option (List RowAt) = λ r. completed rows (tables ++ n ∷ further) (tuple ++ r ∷ []) es in
     let later : (r : RowAt) → matching rows (tables ++ n ∷ []) (tuple ++ r ∷ []) es ≡ listed (then r) =
     λ r. completed-matching defs rows (tables ++ n ∷ []) (tuple ++ r ∷ []) es (one_longer tuple tables r n size)
-    (both_right first (leads_outwards defs (tables ++ n ∷ []) es) leads) (λ k d h. keys (suc k) d (omega arith))
+    (and_parts first (leads_outwards defs (tables ++ n ∷ []) es) leads).1 (λ k d h. keys (suc k) d (omega arith))
     ∙ ap (λ ts. listed (completed rows ts (tuple ++ r ∷ []) es)) (append_assoc tables (n ∷ []) further) in
     ap (map (λ rest. tuple ++ rest)) (filter-flat_map test (λ r. map (λ rest. r ∷ rest) all) (rows n))
     ∙ map-flat_map (λ rest. tuple ++ rest) (λ r. filter test (map (λ rest. r ∷ rest) all)) (rows n)
@@ -190,7 +180,7 @@ along_tree defs root edges conditions rows leads keys =
     ∙ flat_map-same (λ r. filter test (map (λ rest. r ∷ rest) all)) (λ r. listed (completed rows tables (r ∷ []) edges)) (rows root)
     (λ r. filter-map test (λ rest. r ∷ rest) all ∙ completed-matching defs rows (root ∷ []) (r ∷ []) edges refl leads keys)
     ∙ flat_map-listed (λ r. completed rows tables (r ∷ []) edges) (rows root) in
-    filter-both test meant (product (map rows tables)) ∙ ap (filter meant) meeting
+    sym (filter-filter meant test (product (map rows tables))) ∙ ap (filter meant) meeting
 
 -- the tuples of a star query are those that look-ups of keys find, in the same order
 pub joined-found : (q : StarQuery) (rows : ℕ → List RowAt) → IsJoinTree q → HaveKeys q.edges rows → joined_over q rows ≡ found_over q rows

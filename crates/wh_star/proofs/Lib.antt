@@ -12,3 +12,4 @@ pub mod Meant
 pub mod Spread
 pub mod Within
 pub mod Pruned
+pub mod Plain

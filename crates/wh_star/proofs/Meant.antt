@@ -1,8 +1,7 @@
 -- What is read and joined is what the definitions say of the store.
 use Rattle.std.proofs.Common.{◌≡◌, ◌∙◌, ◌+◌, ◌*◌, ◌^◌, ◌<◌, ◌≤◌, ℕ, suc, Bool, true, false, cond, not, List, [], ◌∷◌, ◌++◌, Option, Some, None, length, map, get_or, refl, arith, sym, ap, subst}
-use Rattle.std.proofs.lemmas.Bool.{eq-eqb, eqb-true}
+use Rattle.std.proofs.lemmas.Bool.{and_parts, eq-eqb, eqb-true}
 use Rattle.std.proofs.lemmas.Cmp.{nat_cmp_total, on_total}
-use Rattle.std.proofs.lemmas.List.{length-map}
 use Rattle.std.proofs.lemmas.List.Elements.{All-cons}
 use Rattle.std.proofs.lemmas.List.Sums.{sum_by-cons}
 use Rattle.std.specs.List.{All, filter, filter_map, sum_by}
@@ -29,14 +28,6 @@ use Rattle.wh_star.specs.Lookups.{Entries, completed_by, far_reads, far_rows, in
 
 -- ---- the tables of a tree
 
-both_left : (a b : Bool) → (a && b) ≡ true → a ≡ true
-both_left true b h = refl
-both_left false b h = cc
-
-both_right : (a b : Bool) → (a && b) ≡ true → b ≡ true
-both_right true b h = h
-both_right false b h = cc
-
 has-more : (ns ms : List ℕ) (n : ℕ) → has_number ns n ≡ true → has_number (ns ++ ms) n ≡ true
 has-more [] ms n h = cc
 has-more (m ∷ ns) ms n h = by (m == n) h (has-more ns ms n)
@@ -53,8 +44,8 @@ leads-elsewhere : (defs : List TableDef) (listed : List ℕ) (e : Edge) (root : 
 leads-elsewhere defs listed e root h k false f = refl
 leads-elsewhere defs listed e root h k true f =
     let new : not (has_number listed e.to.table) ≡ true =
-    both_left (not (has_number listed e.to.table)) (is_key_column defs e.to)
-    (both_right (has_number listed e.from.table) (not (has_number listed e.to.table) && is_key_column defs e.to) h) in
+    (and_parts (not (has_number listed e.to.table)) (is_key_column defs e.to)
+    (and_parts (has_number listed e.from.table) (not (has_number listed e.to.table) && is_key_column defs e.to) h).1).0 in
     let same : e.to.table ≡ root = eqb-true e.to.table root f in
     let there : has_number listed e.to.table ≡ true = subst (λ n. has_number listed n ≡ true) (sym same) k in
     let said : not true ≡ true = ap not (sym there) ∙ new in
@@ -66,8 +57,8 @@ outside-listed defs listed [] root h k = λ j d l. absurd (omega arith)
 outside-listed defs listed (e ∷ es) root h k =
     let later : Bool = leads_outwards defs (listed ++ e.to.table ∷ []) es in
     All-cons (λ d. (d.to.table == root) ≡ false) e es
-    (leads-elsewhere defs listed e root (both_left (leads_new defs listed e) later h) k (e.to.table == root) refl)
-    (outside-listed defs (listed ++ e.to.table ∷ []) es root (both_right (leads_new defs listed e) later h) (has-more listed (e.to.table ∷ []) root k))
+    (leads-elsewhere defs listed e root (and_parts (leads_new defs listed e) later h).0 k (e.to.table == root) refl)
+    (outside-listed defs (listed ++ e.to.table ∷ []) es root (and_parts (leads_new defs listed e) later h).1 (has-more listed (e.to.table ∷ []) root k))
 
 pub outside-root : (q : StarQuery) → IsJoinTree q → All (λ e. (e.to.table == q.root) ≡ false) q.edges
 outside-root q tree =
@@ -86,9 +77,6 @@ far-tables P q tree all =
 
 pub root-table : (P : ℕ → Type 0) (q : StarQuery) → IsJoinTree q → All P q.tables → P q.root
 root-table P q tree all = let each : All P (q.root ∷ map (λ e. e.to.table) q.edges) = subst (All P) tree.1.0 all in each 0 0 (omega arith)
-
-pub tables-length : (q : StarQuery) → IsJoinTree q → length q.tables ≡ 1 + length q.edges
-tables-length q tree = omega (arith, ap length tree.1.0, length-map q.edges (λ (e : Edge). e.to.table))
 
 -- ---- the rows of a store
 

@@ -1,7 +1,7 @@
 -- Filters over products of lists.
-use Rattle.std.proofs.Common.{◌≡◌, ◌∙◌, sym, ap, refl, arith, ℕ, suc, Bool, true, false, cond, List, [], ◌∷◌, ◌++◌, ◌+◌, ◌≤◌, Option, Some, None, length, map}
+use Rattle.std.proofs.Common.{◌≡◌, ◌∙◌, ap, refl, arith, ℕ, suc, Bool, true, false, cond, List, [], ◌∷◌, ◌++◌, ◌+◌, ◌≤◌, Option, Some, None, length, map}
 use Rattle.std.proofs.lemmas.List.Elements.{filter-append}
-use Rattle.std.proofs.lemmas.List.{map-append}
+use Rattle.std.proofs.lemmas.List.{append-nil, map-append}
 use Rattle.std.specs.List.{All, AllPairs, cons_option, filter, filter_map, find, flat_map}
 use Rattle.std.specs.Prelude.{◌&&◌}
 use Rattle.wh_base.proofs.Sorting.{times}
@@ -16,14 +16,6 @@ pub filter-flat_map : {A B : Type 0} (p : B → Bool) (f : A → List B) (xs : L
 filter-flat_map p f [] = refl
 filter-flat_map p f (x ∷ xs) = filter-append p (f x) (flat_map f xs) ∙ ap (λ ys. filter p (f x) ++ ys) (filter-flat_map p f xs)
 
-cond_map : {A B : Type 0} (f : A → B) (x : A) (xs : List A) (b : Bool) → cond b (f x ∷ map f xs) (map f xs) ≡ map f (cond b (x ∷ xs) xs)
-cond_map f x xs true = refl
-cond_map f x xs false = refl
-
-pub filter-map : {A B : Type 0} (p : B → Bool) (f : A → B) (xs : List A) → filter p (map f xs) ≡ map f (filter (λ x. p (f x)) xs)
-filter-map p f [] = refl
-filter-map p f (x ∷ xs) = ap (λ ys. cond (p (f x)) (f x ∷ ys) ys) (filter-map p f xs) ∙ cond_map f x (filter (λ y. p (f y)) xs) (p (f x))
-
 pub filter-false : {A : Type 0} (xs : List A) → filter (λ _. false) xs ≡ []
 filter-false [] = refl
 filter-false (x ∷ xs) = filter-false xs
@@ -32,15 +24,6 @@ filter-false (x ∷ xs) = filter-false xs
 pub filter-guard : {A : Type 0} (b : Bool) (p : A → Bool) (xs : List A) → filter (λ x. b && p x) xs ≡ cond b (filter p xs) []
 filter-guard true p xs = refl
 filter-guard false p xs = filter-false xs
-
-pub filter-both : {A : Type 0} (p q : A → Bool) (xs : List A) → filter (λ x. p x && q x) xs ≡ filter q (filter p xs)
-filter-both p q [] = refl
-filter-both {A} p q (x ∷ xs) = by (p x) (q x) refl refl (filter-both p q xs)
-  where
-    by : (b c : Bool) → p x ≡ b → q x ≡ c → filter (λ y. p y && q y) xs ≡ filter q (filter p xs) → cond (b && c) (x ∷ filter (λ y. p y && q y) xs) (filter (λ y. p y && q y) xs) ≡ filter q (cond b (x ∷ filter p xs) (filter p xs))
-    by true true e f h = ap (λ ys. x ∷ ys) h ∙ sym (ap (λ d. cond d (x ∷ filter q (filter p xs)) (filter q (filter p xs))) f)
-    by true false e f h = h ∙ sym (ap (λ d. cond d (x ∷ filter q (filter p xs)) (filter q (filter p xs))) f)
-    by false c e f h = h
 
 -- ---- at most one item
 
@@ -90,17 +73,13 @@ none_pass p f (x ∷ xs) none =
     let here : p x ≡ false = times-none p x xs none in
     rw here (none_pass p f xs (omega (arith, none)))
 
-pub append_nothing : {A : Type 0} (xs : List A) → xs ++ [] ≡ xs
-append_nothing [] = refl
-append_nothing (x ∷ xs) = ap (λ ys. x ∷ ys) (append_nothing xs)
-
 -- where at most one item passes, all that passes is the first that does
 pub flat_map-one : {A B : Type 0} (p : A → Bool) (f : A → List B) (xs : List A) → times p xs ≤ 1 → flat_map (λ x. cond (p x) (f x) []) xs ≡ option_case (find p xs) [] f
 flat_map-one p f [] one = refl
 flat_map-one {A} {B} p f (x ∷ xs) one = by (p x) refl (flat_map-one p f xs (times-tail p x xs 1 one))
   where
     by : (b : Bool) → p x ≡ b → flat_map (λ y. cond (p y) (f y) []) xs ≡ option_case (find p xs) [] f → cond b (f x) [] ++ flat_map (λ y. cond (p y) (f y) []) xs ≡ option_case (cond b (Some x) (find p xs)) [] f
-    by true e later = ap (λ ys. f x ++ ys) (none_pass p f xs (times-rest p x xs one e)) ∙ append_nothing (f x)
+    by true e later = ap (λ ys. f x ++ ys) (none_pass p f xs (times-rest p x xs one e)) ∙ append-nil (f x)
     by false e later = later
 
 -- ---- lists made of lists

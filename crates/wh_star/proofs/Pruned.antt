@@ -1,6 +1,6 @@
 -- No tuple has a row of a partition that the conditions don't admit, so the rows that are read have the tuples of all rows.
 use Rattle.std.proofs.Common.{◌≡◌, ◌∙◌, sym, ap, refl, arith, ℕ, suc, Bool, true, false, cond, not, List, [], ◌∷◌, ◌++◌, Option, Some, None, get_or, map}
-use Rattle.std.proofs.lemmas.Bool.{eq-eqb}
+use Rattle.std.proofs.lemmas.Bool.{and_parts, eq-eqb, not-true, or_right}
 use Rattle.std.proofs.lemmas.List.Elements.{filter-append}
 use Rattle.std.specs.List.{All, filter, flat_map, list_all, list_any}
 use Rattle.std.specs.Prelude.{◌&&◌, ◌==◌, ◌||◌}
@@ -17,25 +17,14 @@ use Rattle.wh_base.specs.declared.values.Interval.{Interval}
 use Rattle.wh_base.specs.declared.values.Value.{Value}
 use Rattle.def_meaning.specs.Joined.{column_value, conditions_true, edge_true, joined_over, part_value, product, row_of, tuple_true}
 use Rattle.def_meaning.specs.Ranges.{Seen, admitted_parts, admitted_rows, equal_columns, misses, query_range}
+use Rattle.law_lists.proofs.Lists.{filter-map}
 use Rattle.wh_star.proofs.Meant.{outside-root}
-use Rattle.wh_star.proofs.Products.{filter-false, filter-map}
+use Rattle.wh_star.proofs.Products.{filter-false}
 use Rattle.wh_star.proofs.Spread.{equal-have}
 use Rattle.wh_star.proofs.Within.{never-misses, ranges-within}
 use Rattle.wh_star.specs.Found.{IsJoinTree}
 use Rattle.wh_star.specs.Lookups.{rows_seen}
 use Rattle.wh_star.specs.Marked.{AreMarked, CanPrune, is_marked, is_pair, without_pairs}
-
-both_true : (a b : Bool) → (a && b) ≡ true → (a ≡ true) × (b ≡ true)
-both_true true b h = (refl, h)
-both_true false b h = cc
-
-not_true : (a : Bool) → not a ≡ true → a ≡ false
-not_true true h = cc
-not_true false h = refl
-
-or_right : (a b : Bool) → b ≡ true → (a || b) ≡ true
-or_right true b h = refl
-or_right false b h = h
 
 -- ---- a row of a tuple stands in an admitted partition
 
@@ -53,7 +42,7 @@ module _ (missed has : Interval → Bool) (mark : ℕ) (never : (i : Interval) �
           → (list_any (λ r. (r.0.number == mark) && has r.1) ps ≡ true → has_number (map (λ r. r.0.number) (filter (λ r. not (missed r.1)) ps)) mark ≡ true)
           → has_number (map (λ r. r.0.number) (cond (not (missed p.1)) (p ∷ filter (λ r. not (missed r.1)) ps) (filter (λ r. not (missed r.1)) ps))) mark ≡ true
       by true e k rest =
-          let parts = both_true (p.0.number == mark) (has p.1) e in
+          let parts = and_parts (p.0.number == mark) (has p.1) e in
           let stays : missed p.1 ≡ false = never p.1 parts.1 in
           ap (λ b. has_number (map (λ r. r.0.number) (cond (not b) (p ∷ filter (λ r. not (missed r.1)) ps) (filter (λ r. not (missed r.1)) ps))) mark) stays
           ∙ ap (λ b. b || has_number (map (λ r. r.0.number) (filter (λ r. not (missed r.1)) ps)) mark) parts.0
@@ -74,10 +63,10 @@ true-admitted :
 true-admitted q further parts key r rest tables plain marked holds =
     let column : ColRef = record { table = q.root; part = Col key } in
     let value : ColRef → Value = column_value q.tables (r ∷ rest) in
-    let trues = both_true (list_all (edge_true value) q.edges) (conditions_true value q.conditions) holds in
+    let trues = and_parts (list_all (edge_true value) q.edges) (conditions_true value q.conditions) holds in
     let here : value column ≡ value_at r.values key = ap (λ ts. column_value ts (r ∷ rest) column) tables ∙ root-value q.root further r rest key in
-    let marks = both_true (is_marked parts key r) (not (is_pair (value_at r.values key))) marked in
-    let plain_key : is_pair (value column) ≡ false = ap is_pair here ∙ not_true (is_pair (value_at r.values key)) marks.1 in
+    let marks = and_parts (is_marked parts key r) (not (is_pair (value_at r.values key))) marked in
+    let plain_key : is_pair (value column) ≡ false = ap is_pair here ∙ not-true (is_pair (value_at r.values key)) marks.1 in
     let within = ranges-within value (value column) (equal_columns q.edges column) (equal-have value q.edges column trues.0) plain_key q.conditions plain trues.1 in
     marked-admitted (misses q column) (λ i. interval_has i (value_at r.values key)) r.mark
     (λ i h. never-misses (value column) (query_range q column) i within (ap (interval_has i) here ∙ h))

@@ -1,39 +1,16 @@
 -- In a tuple in which the joins are true, columns that joins make equal have one value.
 use Rattle.std.proofs.Common.{◌≡◌, ◌∙◌, sym, ap, refl, ℕ, zero, suc, Bool, true, false, cond, not, List, [], ◌∷◌, ◌++◌, length}
-use Rattle.std.proofs.lemmas.Bool.{eqb-true}
+use Rattle.std.proofs.lemmas.Bool.{and_parts}
 use Rattle.std.specs.List.{list_all}
-use Rattle.std.specs.Prelude.{◌&&◌, ◌==◌, ◌||◌}
-use Rattle.wh_base.specs.Columns.{has_column, same_column, same_part}
-use Rattle.wh_base.specs.declared.columns.ColPart.{ColPart}
-use Rattle.wh_base.specs.declared.columns.ColPart.TheVariants.{Col, Mark, RowId}
+use Rattle.std.specs.Prelude.{◌&&◌, ◌||◌}
+use Rattle.wh_base.proofs.SameItems.{same_column_is}
+use Rattle.wh_base.specs.Columns.{has_column, same_column}
 use Rattle.wh_base.specs.declared.columns.ColRef.{ColRef}
 use Rattle.wh_base.specs.declared.queries.Edge.{Edge}
 use Rattle.wh_base.specs.declared.values.Value.{Value}
 use Rattle.def_meaning.specs.Joined.{edge_true}
 use Rattle.def_meaning.specs.Ranges.{equal_columns, other_end, spread, spread_times}
 use Rattle.wh_star.proofs.Found.{one_value}
-
-both_left : (a b : Bool) → (a && b) ≡ true → a ≡ true
-both_left true b h = refl
-both_left false b h = cc
-
-both_right : (a b : Bool) → (a && b) ≡ true → b ≡ true
-both_right true b h = h
-both_right false b h = cc
-
--- ---- one column
-
-same_part-is : (p q : ColPart) → same_part p q ≡ true → p ≡ q
-same_part-is (Col m) (Col n) h = ap Col (eqb-true m n h)
-same_part-is RowId RowId h = refl
-same_part-is Mark Mark h = refl
-same_part-is p q h = cc
-
-same_column-is : (a b : ColRef) → same_column a b ≡ true → a ≡ b
-same_column-is a b h =
-    let tables : a.table ≡ b.table = eqb-true a.table b.table (both_left (a.table == b.table) (same_part a.part b.part) h) in
-    let parts : a.part ≡ b.part = same_part-is a.part b.part (both_right (a.table == b.table) (same_part a.part b.part) h) in
-    λ i. record { table = tables i; part = parts i }
 
 -- ---- columns of one value
 
@@ -48,7 +25,7 @@ module _ (value : ColRef → Value) (v : Value) where
   has-value (d ∷ cs) c all h = by (same_column c d) refl h (has-value cs c all.1)
     where
       by : (b : Bool) → same_column c d ≡ b → (b || has_column cs c) ≡ true → (has_column cs c ≡ true → value c ≡ v) → value c ≡ v
-      by true e k rest = ap value (same_column-is c d e) ∙ all.0
+      by true e k rest = ap value (same_column_is c d e) ∙ all.0
       by false e k rest = rest k
 
   have-append : (cs ds : List ColRef) → AllHave cs → AllHave ds → AllHave (cs ++ ds)
@@ -67,8 +44,8 @@ module _ (value : ColRef → Value) (v : Value) where
   spread-has : (es : List Edge) (cs : List ColRef) → list_all (edge_true value) es ≡ true → AllHave cs → AllHave (spread es cs)
   spread-has [] cs h all = all
   spread-has (e ∷ es) cs h all =
-      spread-has es (cs ++ other_end cs e) (both_right (edge_true value e) (list_all (edge_true value) es) h)
-      (have-append cs (other_end cs e) all (other-has cs e (both_left (edge_true value e) (list_all (edge_true value) es) h) all))
+      spread-has es (cs ++ other_end cs e) (and_parts (edge_true value e) (list_all (edge_true value) es) h).1
+      (have-append cs (other_end cs e) all (other-has cs e (and_parts (edge_true value e) (list_all (edge_true value) es) h).0 all))
 
   rounds-have : (n : ℕ) (es : List Edge) (cs : List ColRef) → list_all (edge_true value) es ≡ true → AllHave cs → AllHave (spread_times n es cs)
   rounds-have zero es cs h all = all

@@ -1,6 +1,7 @@
 -- A list that ascends, with items that tie in a given order, is determined; so a stable sort leaves the list in order, and a list
 -- in order stays so without some of its items.
 use Rattle.std.proofs.Common.{◌≡◌, ◌∙◌, sym, ap, refl, arith, suc, ◌+◌, Bool, true, false, cond, not, List, [], ◌∷◌, ◌++◌, append_assoc}
+use Rattle.std.proofs.Math.Bool.{and_comm}
 use Rattle.std.specs.Cmp.{IsTotalOrder}
 use Rattle.std.specs.List.{filter}
 use Rattle.std.specs.List.Sorted.{IsSorted, IsStable, ties}
@@ -11,18 +12,12 @@ use Rattle.std.specs.declared.cmp.Ordering.TheVariants.{Less, Equal, Greater}
 use Rattle.std.proofs.lemmas.List.MinMax.{ranks_by}
 use Rattle.wh_base.proofs.Sorting.{Ascends, NoneBelow, sorted_ascends}
 use Rattle.wh_base.specs.Lists.{put_in_order, sort_onto, sorted_by}
+use Rattle.law_lists.proofs.Lists.{filter-filter}
 
 -- ---- filters
 
 pub filter-swap : {A : Type 0} (p q : A → Bool) (xs : List A) → filter p (filter q xs) ≡ filter q (filter p xs)
-filter-swap p q [] = refl
-filter-swap {A} p q (x ∷ xs) = by (p x) (q x) refl refl (filter-swap p q xs)
-  where
-    by : (b c : Bool) → p x ≡ b → q x ≡ c → filter p (filter q xs) ≡ filter q (filter p xs) → filter p (cond c (x ∷ filter q xs) (filter q xs)) ≡ filter q (cond b (x ∷ filter p xs) (filter p xs))
-    by true true e f h = ap (λ d. cond d (x ∷ filter p (filter q xs)) (filter p (filter q xs))) e ∙ ap (λ ys. x ∷ ys) h ∙ sym (ap (λ d. cond d (x ∷ filter q (filter p xs)) (filter q (filter p xs))) f)
-    by true false e f h = h ∙ sym (ap (λ d. cond d (x ∷ filter q (filter p xs)) (filter q (filter p xs))) f)
-    by false true e f h = ap (λ d. cond d (x ∷ filter p (filter q xs)) (filter p (filter q xs))) e ∙ h
-    by false false e f h = h
+filter-swap p q xs = filter-filter p q xs ∙ (λ i. filter (λ x. and_comm (q x) (p x) i) xs) ∙ sym (filter-filter q p xs)
 
 module _ {A : Type 0} (cmp : A → A → Ordering) (order : IsTotalOrder cmp) where
   abbrev below : A → A → Bool

@@ -1,5 +1,6 @@
 -- A value of which conditions are true lies within what they say.
 use Rattle.std.proofs.Common.{◌≡◌, ◌∙◌, sym, ap, refl, subst, Bool, true, false, cond, not, List, [], ◌∷◌, Option, Some, None, ◌⊎◌, inl, inr}
+use Rattle.std.proofs.lemmas.Bool.{and_parts, not-true}
 use Rattle.std.specs.List.{filter, list_all, list_any}
 use Rattle.std.specs.Ordering.{is_eq, is_ge, is_gt, is_le, is_lt, ordering_reverse}
 use Rattle.std.specs.Prelude.{◌&&◌, ◌||◌}
@@ -211,19 +212,11 @@ max-above v w m h p = by (is_null m) refl h
     by true e (inl k) = subst (Above v) (sym (ap (either_value greater w) (null-is m e) ∙ either_null w)) k
     by true e (inr k) = let said : is_null m ≡ false = k.1 in cc
 
-both_true : (a b : Bool) → (a && b) ≡ true → (a ≡ true) × (b ≡ true)
-both_true true b h = (refl, h)
-both_true false b h = cc
-
-not_true : (a : Bool) → not a ≡ true → a ≡ false
-not_true true h = cc
-not_true false h = refl
-
 -- a value among these lies between the least and the greatest of them
 list-between : (v : Value) (ws : List Value) → is_pair v ≡ false → no_pairs ws ≡ true → list_any (is_true_that v Eq) ws ≡ true → (is_lt (value_cmp v (min_value (filter not_null ws))) ≡ false) × Above v (max_value (filter not_null ws))
 list-between v [] p plain h = cc
 list-between v (w ∷ ws) p plain h =
-    by (is_null w) (is_true_that v Eq w) refl refl h (list-between v ws p (both_true (not (is_pair w)) (no_pairs ws) plain).1)
+    by (is_null w) (is_true_that v Eq w) refl refl h (list-between v ws p (and_parts (not (is_pair w)) (no_pairs ws) plain).1)
   where
     by :
         (b c : Bool) → is_null w ≡ b → is_true_that v Eq w ≡ c → (c || list_any (is_true_that v Eq) ws) ≡ true
@@ -232,7 +225,7 @@ list-between v (w ∷ ws) p plain h =
     by true true e f g rest = let said : is_null w ≡ false = null-true v Eq w f in cc
     by true false e f g rest = rest g
     by false true e f g rest =
-        let same : v ≡ w = equal-is v w p (not_true (is_pair w) (both_true (not (is_pair w)) (no_pairs ws) plain).0) f in
+        let same : v ≡ w = equal-is v w p (not-true (is_pair w) (and_parts (not (is_pair w)) (no_pairs ws) plain).0) f in
         let here : Above v w = (ap (λ x. is_gt (value_cmp x w)) same ∙ itself-gt w, e) in
         (min-head v w (min_value (filter not_null ws)) same, max-above v w (max_value (filter not_null ws)) (inl here) e)
     by false false e f g rest =
@@ -253,7 +246,7 @@ module _ (value : ColRef → Value) (v : Value) (columns : List ColRef) (all : A
   condition-within (Compare c op w) plain h = by (has_column columns c) refl
     where
       by : (b : Bool) → has_column columns c ≡ b → Within v (cond b (range_of_op op w) whole_range)
-      by true e = op-within v op w (op-holds v w op p (not_true (is_pair w) plain) (subst (λ u. is_true_that u op w ≡ true) (has-value value v columns c all e) h))
+      by true e = op-within v op w (op-holds v w op p (not-true (is_pair w) plain) (subst (λ u. is_true_that u op w ≡ true) (has-value value v columns c all e) h))
       by false e = (tt, tt)
   condition-within (OneOf c ws) plain h = by (has_column columns c) refl
     where
@@ -266,8 +259,8 @@ module _ (value : ColRef → Value) (v : Value) (columns : List ColRef) (all : A
   pub ranges-within : (cs : List Condition) → list_all without_pairs cs ≡ true → conditions_true value cs ≡ true → Within v (ranges_of columns cs)
   ranges-within [] plain h = (tt, tt)
   ranges-within (c ∷ cs) plain h =
-      let plains = both_true (without_pairs c) (list_all without_pairs cs) plain in
-      let trues = both_true (condition_true value c) (conditions_true value cs) h in
+      let plains = and_parts (without_pairs c) (list_all without_pairs cs) plain in
+      let trues = and_parts (condition_true value c) (conditions_true value cs) h in
       both-within v (range_of columns c) (ranges_of columns cs) (condition-within c plains.0 trues.0) (ranges-within cs plains.1 trues.1)
 
 -- ---- intervals
@@ -301,5 +294,5 @@ not-above v (Some l) (Some hi) h k = by (is_ge (value_cmp l hi)) refl
 -- a range with the value in it doesn't miss an interval with the value in it
 pub never-misses : (v : Value) (r : Range) (i : Interval) → Within v r → interval_has i v ≡ true → range_misses r i ≡ false
 never-misses v r i within h =
-    let has = both_true (option_case i.lo true (λ lo. is_ge (value_cmp v lo))) (option_case i.hi true (λ hi. is_lt (value_cmp v hi))) h in
+    let has = and_parts (option_case i.lo true (λ lo. is_ge (value_cmp v lo))) (option_case i.hi true (λ hi. is_lt (value_cmp v hi))) h in
     ap (λ b. b || above_interval r.least i.hi) (not-below v r.most i.lo within.1 has.0) ∙ not-above v r.least i.hi within.0 has.1

@@ -2,7 +2,7 @@
 use Rattle.std.proofs.Common.{◌≡◌, ◌∙◌, sym, ap, refl, subst, arith, ℕ, zero, suc, ◌+◌, ◌-◌, ◌<◌, ◌≤◌, ◌^◌, List, [], ◌∷◌, ◌++◌, length, Option, None, Some, IfSome, slice_get, slice_set, slice_index_or, zero-le}
 use Rattle.std.proofs.lemmas.List.{length_push, map-append}
 use Rattle.std.proofs.lemmas.List.Elements.{All-push}
-use Rattle.std.proofs.lemmas.Option.{slice_get-get_or}
+use Rattle.std.proofs.lemmas.Option.{none-some, same_Some, slice_get-get_or}
 use Rattle.std.specs.Prelude.{Err, Ok, OnErr, OnOk, Result}
 use Rattle.wh_base.specs.Tables.{most_live}
 use Rattle.wh_base.specs.declared.tables.Part.{Part}
@@ -14,12 +14,6 @@ use Rattle.wh_table.proofs.Counting.{all_from, each_from, each_get}
 use Rattle.wh_table.proofs.Keeping.{LivesAt, kept_begun, kept_deleted, kept_inserted, kept_updated, last_deleted, last_inserted, last_updated, live_version}
 use Rattle.wh_table.proofs.Ordered.{Each}
 
-none_not_some : {A : Type 0} (x : A) → None ≡ Some x → ⊥
-none_not_some x e = cc
-
-some_same : {A : Type 0} (x y : A) → Some x ≡ Some y → x ≡ y
-some_same x y e = cc
-
 -- the table with this index
 pub table_is : (tables : List Stored) (n : ℕ) (s : Stored) → n < length tables → s ≡ slice_index_or tables n s → slice_get tables n ≡ Some s
 table_is tables n s h is = slice_get-get_or tables n s h ∙ ap Some (sym is)
@@ -28,13 +22,13 @@ pub if_there : (tables : List Stored) (n : ℕ) (s : Stored) (P : Stored → Typ
 if_there tables n s P e h = subst (λ o. IfSome o P) e h
 
 pub set_changed : (change : Stored → Stored) (tables : List Stored) (n : ℕ) (s t : Stored) → slice_get tables n ≡ Some s → t ≡ change s → slice_set tables n t ≡ with_change n change tables
-set_changed change [] n s t e is = absurd (none_not_some s e)
-set_changed change (u ∷ tables) zero s t e is = ap (λ v. v ∷ tables) (is ∙ ap change (sym (some_same u s e)))
+set_changed change [] n s t e is = absurd (none-some s e)
+set_changed change (u ∷ tables) zero s t e is = ap (λ v. v ∷ tables) (is ∙ ap change (sym (same_Some u s e)))
 set_changed change (u ∷ tables) (suc n) s t e is = ap (λ rest. u ∷ rest) (set_changed change tables n s t e is)
 
 pub set_same : (tables : List Stored) (n : ℕ) (s t : Stored) → slice_get tables n ≡ Some s → t ≡ s → slice_set tables n t ≡ tables
-set_same [] n s t e is = absurd (none_not_some s e)
-set_same (u ∷ tables) zero s t e is = ap (λ v. v ∷ tables) (is ∙ sym (some_same u s e))
+set_same [] n s t e is = absurd (none-some s e)
+set_same (u ∷ tables) zero s t e is = ap (λ v. v ∷ tables) (is ∙ sym (same_Some u s e))
 set_same (u ∷ tables) (suc n) s t e is = ap (λ rest. u ∷ rest) (set_same tables n s t e is)
 
 -- what holds of the list after a call that changed it where it is Ok, and left it as it was where it is Err

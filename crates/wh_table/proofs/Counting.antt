@@ -1,5 +1,6 @@
 -- Rowids given, last changes, and how many rows live: what a version more and an ended one do to them.
 use Rattle.std.proofs.Common.{◌≡◌, ◌∙◌, sym, ap, refl, subst, arith, ℕ, zero, suc, ◌+◌, max, Bool, true, false, cond, ◌&&◌, List, [], ◌∷◌, ◌++◌, length, Option, None, Some, is_some, is_none, slice_get, slice_set, nat_le, true≢false}
+use Rattle.std.proofs.lemmas.Option.{none-some, same_Some}
 use Rattle.std.specs.List.{All, filter}
 use Rattle.wh_base.specs.Lists.{option_case}
 use Rattle.wh_base.specs.declared.values.Value.{Value}
@@ -7,12 +8,6 @@ use Rattle.wh_segment.specs.Versions.{born_at, ended, ended_at, is_live}
 use Rattle.wh_segment.specs.declared.version.Version.{Version}
 use Rattle.wh_table.specs.Stored.{IsNamed, changed_at, given_at, last_scn}
 use Rattle.wh_table.proofs.Ordered.{Each}
-
-none_not_some : {A : Type 0} (x : A) → None ≡ Some x → ⊥
-none_not_some x e = cc
-
-some_same : {A : Type 0} (x y : A) → Some x ≡ Some y → x ≡ y
-some_same x y e = cc
 
 pub ended_is : (vs : List Version) (place scn : ℕ) (v : Version) → slice_get vs place ≡ Some v → ended_at place scn vs ≡ slice_set vs place (ended scn v)
 ended_is vs place scn v e = ap (λ o. option_case o vs (λ w. slice_set vs place (ended scn w))) e
@@ -33,7 +28,7 @@ given_append at (w ∷ vs) v = omega (arith, given_append at vs v)
 
 set_given : (at : ℕ) (vs : List Version) (place scn : ℕ) (v : Version) → slice_get vs place ≡ Some v → given_at at (slice_set vs place (ended scn v)) ≡ given_at at vs
 set_given at [] place scn v e = refl
-set_given at (w ∷ vs) zero scn v e = ap (λ u. max (cond (nat_le u.born at) u.rowid 0) (given_at at vs)) (sym (some_same w v e))
+set_given at (w ∷ vs) zero scn v e = ap (λ u. max (cond (nat_le u.born at) u.rowid 0) (given_at at vs)) (sym (same_Some w v e))
 set_given at (w ∷ vs) (suc place) scn v e = ap (λ n. max (cond (nat_le w.born at) w.rowid 0) n) (set_given at vs place scn v e)
 
 pub given_ended : (at : ℕ) (vs : List Version) (place scn : ℕ) (v : Version) → slice_get vs place ≡ Some v → given_at at (ended_at place scn vs) ≡ given_at at vs
@@ -54,9 +49,9 @@ live_changed v live = by v.died live
     by (Some d) e = absurd (true≢false (sym e))
 
 set_last : (vs : List Version) (place scn : ℕ) (v : Version) → slice_get vs place ≡ Some v → is_live v ≡ true → last_scn (slice_set vs place (ended scn v)) ≡ max (last_scn vs) scn
-set_last [] place scn v e live = absurd (none_not_some v e)
+set_last [] place scn v e live = absurd (none-some v e)
 set_last (w ∷ vs) zero scn v e live =
-    let born : changed_at w ≡ v.born = ap changed_at (some_same w v e) ∙ live_changed v live in
+    let born : changed_at w ≡ v.born = ap changed_at (same_Some w v e) ∙ live_changed v live in
     omega (arith, born)
 set_last (w ∷ vs) (suc place) scn v e live = omega (arith, set_last vs place scn v e live)
 
@@ -75,9 +70,9 @@ count_append (v ∷ vs) scn rowid part values = by (is_live v) (count_append vs 
     by false h = h
 
 set_count : (vs : List Version) (place scn : ℕ) (v : Version) → slice_get vs place ≡ Some v → is_live v ≡ true → length (filter is_live (slice_set vs place (ended scn v))) + 1 ≡ length (filter is_live vs)
-set_count [] place scn v e live = absurd (none_not_some v e)
+set_count [] place scn v e live = absurd (none-some v e)
 set_count (w ∷ vs) zero scn v e live =
-    let alive : is_live w ≡ true = ap is_live (some_same w v e) ∙ live in
+    let alive : is_live w ≡ true = ap is_live (same_Some w v e) ∙ live in
     let more : length (filter is_live (w ∷ vs)) ≡ suc (length (filter is_live vs)) = ap (λ b. length (cond b (w ∷ filter is_live vs) (filter is_live vs))) alive in
     omega (arith, more)
 set_count (w ∷ vs) (suc place) scn v e live = by (is_live w) (set_count vs place scn v e live)
@@ -102,8 +97,8 @@ all_from P (x ∷ xs) h zero d l = h.0
 all_from P (x ∷ xs) h (suc k) d l = all_from P xs h.1 k d (omega (arith, l))
 
 pub each_get : {A : Type 0} (P : A → Type 0) (xs : List A) (i : ℕ) (x : A) → slice_get xs i ≡ Some x → Each P xs → P x
-each_get P [] i x e h = absurd (none_not_some x e)
-each_get P (y ∷ ys) zero x e h = subst P (some_same y x e) h.0
+each_get P [] i x e h = absurd (none-some x e)
+each_get P (y ∷ ys) zero x e h = subst P (same_Some y x e) h.0
 each_get P (y ∷ ys) (suc i) x e h = each_get P ys i x e h.1
 
 pub each_set : {A : Type 0} (P : A → Type 0) (xs : List A) (i : ℕ) (x : A) → P x → Each P xs → Each P (slice_set xs i x)

@@ -1,6 +1,7 @@
 -- The rows at the places of a table: what each change of the places does to them, and what each version gives.
 use Rattle.std.proofs.Common.{◌≡◌, ◌∙◌, sym, ap, refl, subst, arith, ℕ, zero, suc, ◌+◌, ◌<◌, ◌≤◌, max, Bool, true, false, cond, not, ◌&&◌, ◌||◌, ◌==◌, List, [], ◌∷◌, ◌++◌, map, length, Option, None, Some, is_none, is_some, slice_get, slice_set, nat_le, nat_lt, true≢false}
-use Rattle.std.proofs.lemmas.Bool.{le-leb, le-ltb, eqb-true, eq-eqb}
+use Rattle.std.proofs.lemmas.Option.{none-some, same_Some}
+use Rattle.std.proofs.lemmas.Bool.{eq-eqb, eqb-true, false_from_ne_true, le-leb, le-ltb, or_right}
 use Rattle.std.specs.List.{filter}
 use Rattle.wh_base.specs.Lists.{option_case, where_true}
 use Rattle.wh_base.specs.Tables.{HaveRowids, Places, live_rows}
@@ -23,39 +24,25 @@ live_append_none [] = refl
 live_append_none (None ∷ ps) = live_append_none ps
 live_append_none (Some q ∷ ps) = ap (λ rows. q ∷ rows) (live_append_none ps)
 
-some_same : {A : Type 0} (x y : A) → Some x ≡ Some y → x ≡ y
-some_same x y e = cc
-
-none_not_some : {A : Type 0} (x : A) → None ≡ Some x → ⊥
-none_not_some x e = cc
-
 -- the row at a place is among those that live
 pub each_place : (P : RowAt → Type 0) (ps : Places) (place : ℕ) (r : RowAt) → slice_get ps place ≡ Some (Some r) → Each P (live_rows ps) → P r
-each_place P [] place r e h = absurd (none_not_some (Some r) e)
-each_place P (None ∷ ps) zero r e h = absurd (none_not_some r (some_same None (Some r) e))
-each_place P (Some q ∷ ps) zero r e h = subst P (some_same q r (some_same (Some q) (Some r) e)) h.0
+each_place P [] place r e h = absurd (none-some (Some r) e)
+each_place P (None ∷ ps) zero r e h = absurd (none-some r (same_Some None (Some r) e))
+each_place P (Some q ∷ ps) zero r e h = subst P (same_Some q r (same_Some (Some q) (Some r) e)) h.0
 each_place P (None ∷ ps) (suc place) r e h = each_place P ps place r e h
 each_place P (Some q ∷ ps) (suc place) r e h = each_place P ps place r e h.1
 
-or_true : (a b : Bool) → b ≡ true → (a || b) ≡ true
-or_true true b e = refl
-or_true false b e = e
-
 pub has_place : (ps : Places) (place : ℕ) (r : RowAt) → slice_get ps place ≡ Some (Some r) → has r.rowid (live_rows ps) ≡ true
-has_place [] place r e = absurd (none_not_some (Some r) e)
-has_place (None ∷ ps) zero r e = absurd (none_not_some r (some_same None (Some r) e))
+has_place [] place r e = absurd (none-some (Some r) e)
+has_place (None ∷ ps) zero r e = absurd (none-some r (same_Some None (Some r) e))
 has_place (Some q ∷ ps) zero r e =
-    let same : q ≡ r = some_same q r (some_same (Some q) (Some r) e) in
+    let same : q ≡ r = same_Some q r (same_Some (Some q) (Some r) e) in
     ap (λ b. b || has r.rowid (live_rows ps)) (eq-eqb q.rowid r.rowid (ap (λ x. x.rowid) same))
 has_place (None ∷ ps) (suc place) r e = has_place ps place r e
-has_place (Some q ∷ ps) (suc place) r e = or_true (q.rowid == r.rowid) (has r.rowid (live_rows ps)) (has_place ps place r e)
-
-false_from : (b : Bool) → (b ≡ true → ⊥) → b ≡ false
-false_from true h = absurd (h refl)
-false_from false h = refl
+has_place (Some q ∷ ps) (suc place) r e = or_right (q.rowid == r.rowid) (has r.rowid (live_rows ps)) (has_place ps place r e)
 
 apart_keeps : (id : ℕ) (q : RowAt) → (q.rowid ≡ id → ⊥) → keeps id q ≡ true
-apart_keeps id q h = ap not (false_from (q.rowid == id) (λ e. h (eqb-true q.rowid id e)))
+apart_keeps id q h = ap not (false_from_ne_true (q.rowid == id) (λ e. h (eqb-true q.rowid id e)))
 
 all_kept : (r : RowAt) (rows : List RowAt) → Each (Apart r) rows → filter (keeps r.rowid) rows ≡ rows
 all_kept r [] h = refl
@@ -65,10 +52,10 @@ all_kept r (q ∷ rows) h =
 
 pub live_without : (ps : Places) (place : ℕ) (r : RowAt) → slice_get ps place ≡ Some (Some r) → Differ (live_rows ps)
     → live_rows (slice_set ps place None) ≡ filter (keeps r.rowid) (live_rows ps)
-live_without [] place r e d = absurd (none_not_some (Some r) e)
-live_without (None ∷ ps) zero r e d = absurd (none_not_some r (some_same None (Some r) e))
+live_without [] place r e d = absurd (none-some (Some r) e)
+live_without (None ∷ ps) zero r e d = absurd (none-some r (same_Some None (Some r) e))
 live_without (Some q ∷ ps) zero r e d =
-    let same : q ≡ r = some_same q r (some_same (Some q) (Some r) e) in
+    let same : q ≡ r = same_Some q r (same_Some (Some q) (Some r) e) in
     let gone : keeps r.rowid q ≡ false = ap not (eq-eqb q.rowid r.rowid (ap (λ x. x.rowid) same)) in
     sym (ap (λ b. cond b (q ∷ filter (keeps r.rowid) (live_rows ps)) (filter (keeps r.rowid) (live_rows ps))) gone
     ∙ all_kept r (live_rows ps) (subst (λ x. Each (Apart x) (live_rows ps)) same d.0))
@@ -80,8 +67,8 @@ live_without (Some q ∷ ps) (suc place) r e d =
 
 -- a row less
 pub live_less : (ps : Places) (place : ℕ) (r : RowAt) → slice_get ps place ≡ Some (Some r) → length (live_rows (slice_set ps place None)) + 1 ≡ length (live_rows ps)
-live_less [] place r e = absurd (none_not_some (Some r) e)
-live_less (None ∷ ps) zero r e = absurd (none_not_some r (some_same None (Some r) e))
+live_less [] place r e = absurd (none-some (Some r) e)
+live_less (None ∷ ps) zero r e = absurd (none-some r (same_Some None (Some r) e))
 live_less (Some q ∷ ps) zero r e = omega arith
 live_less (None ∷ ps) (suc place) r e = live_less ps place r e
 live_less (Some q ∷ ps) (suc place) r e = omega (arith, live_less ps place r e)
@@ -100,8 +87,8 @@ differ_from (x ∷ xs) h = (
 )
 
 apart_at : (x : RowAt) (xs : List RowAt) (n : ℕ) → n < length xs → Each (Apart x) xs → slice_get (map (λ r. r.rowid) xs) n ≡ Some x.rowid → ⊥
-apart_at x [] n l h e = none_not_some x.rowid e
-apart_at x (y ∷ ys) zero l h e = h.0 (sym (some_same y.rowid x.rowid e))
+apart_at x [] n l h e = none-some x.rowid e
+apart_at x (y ∷ ys) zero l h e = h.0 (sym (same_Some y.rowid x.rowid e))
 apart_at x (y ∷ ys) (suc n) l h e = apart_at x ys n (omega (arith, l)) h.1 e
 
 pub have_from : (xs : List RowAt) → Differ xs → HaveRowids xs
@@ -210,9 +197,9 @@ row_there at v h live = by v.values refl
 
 pub live_row : (at : ℕ) (vs : List Version) (place : ℕ) (v : Version) → last_scn vs ≤ at → slice_get vs place ≡ Some v → is_live v ≡ true
     → (values : List Value) × ((v.values ≡ Some values) × (slice_get (rows_at at vs) place ≡ Some (Some (record { rowid = v.rowid; mark = v.part; values = values }))))
-live_row at [] place v h e live = absurd (none_not_some v e)
+live_row at [] place v h e live = absurd (none-some v e)
 live_row at (w ∷ vs) zero v h e live =
-    let same : w ≡ v = some_same w v e in
+    let same : w ≡ v = same_Some w v e in
     let in_time : changed_at w ≤ at = omega (arith, h) in
     let there = row_there at v (subst (λ u. changed_at u ≤ at) same in_time) live in
     (there.0, (there.1.0, ap (λ u. Some (row_at at u)) same ∙ ap Some there.1.1))

@@ -204,10 +204,6 @@ has_put id x (y ∷ ys) = by (is_lt (rowid_cmp x y)) (has_put id x ys)
     by true rest = refl
     by false rest = ap (λ b. (y.rowid == id) || b) rest ∙ or_swap (y.rowid == id) (x.rowid == id) (has id ys)
 
-or_true : (a b : Bool) → b ≡ true → (a || b) ≡ true
-or_true true b e = refl
-or_true false b e = e
-
 or_move : (a b c : Bool) → ((a || b) || c) ≡ true → (b || (a || c)) ≡ true
 or_move true true c e = refl
 or_move true false c e = refl

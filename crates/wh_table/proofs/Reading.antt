@@ -1,5 +1,6 @@
 -- What stands at a place of a table.
 use Rattle.std.proofs.Common.{◌≡◌, ◌∙◌, sym, ap, refl, subst, ℕ, zero, suc, ◌<◌, Bool, true, false, List, [], ◌∷◌, length, map, Option, None, Some, IsTrue, IsSome, IfSome, IsSomeAnd, ◌↔◌, is_some, slice_get, unwrap_or}
+use Rattle.std.proofs.lemmas.Option.{none-some, same_Some}
 use Rattle.std.proofs.lemmas.List.{length-map, nil_from_length}
 use Rattle.std.specs.List.{All}
 use Rattle.wh_base.specs.Lists.{option_case, where_true}
@@ -14,15 +15,9 @@ use Rattle.wh_table.specs.Kept.{no_key, no_part, tables_at}
 use Rattle.wh_table.specs.Stored.{IsNamed, IsStored, Stored, places_at}
 use Rattle.wh_table.proofs.Counting.{each_from, each_get}
 
-none_not_some : {A : Type 0} (x : A) → None ≡ Some x → ⊥
-none_not_some x e = cc
-
-some_same : {A : Type 0} (x y : A) → Some x ≡ Some y → x ≡ y
-some_same x y e = cc
-
 places_is : (tables : List Stored) (at n : ℕ) (s : Stored) → slice_get tables n ≡ Some s → places_of (tables_at at tables) n ≡ places_at at s
-places_is [] at n s e = absurd (none_not_some s e)
-places_is (t ∷ tables) at zero s e = ap (places_at at) (some_same t s e)
+places_is [] at n s e = absurd (none-some s e)
+places_is (t ∷ tables) at zero s e = ap (places_at at) (same_Some t s e)
 places_is (t ∷ tables) at (suc n) s e = places_is tables at n s e
 
 at_place : (at : ℕ) (vs : List Version) (place : ℕ) → unwrap_or (slice_get (rows_at at vs) place) None ≡ option_case (slice_get vs place) None (row_at at)
@@ -83,7 +78,7 @@ pub values_shown : (tables : List Stored) (at n place : ℕ) (values : List Valu
     → IfSome (place_of (tables_at at tables) n place) (λ row. values ≡ row.values)
 values_shown tables at n place values s e h =
     shown_at tables at n place s (λ row. values ≡ row.values) e
-    (λ v f ws g. (let has : v.values ≡ Some values = subst (λ o. IfSome o (λ u. u.values ≡ Some values)) f h in some_same values ws (sym has ∙ g)))
+    (λ v f ws g. (let has : v.values ≡ Some values = subst (λ o. IfSome o (λ u. u.values ≡ Some values)) f h in same_Some values ws (sym has ∙ g)))
 
 pub unmarked_shown : (tables : List Stored) (at n place : ℕ) (s : Stored) → All IsStored tables → slice_get tables n ≡ Some s → IfSome (place_of (tables_at at tables) n place) (λ row. 0 ≡ row.mark)
 unmarked_shown tables at n place s all e =
@@ -106,12 +101,12 @@ pub there_shown : (tables : List Stored) (at n place : ℕ) (s : Stored) → sli
 there_shown tables at n place s e h = there_at at (slice_get s.versions place) (subst (λ (o : Option RowAt). IsSome {T = RowAt} o) (place_is tables at n place s e) h)
 
 pub key_is : (tables : List Stored) (n : ℕ) (s : Stored) → slice_get tables n ≡ Some s → slice_get (map no_key tables) n ≡ Some None
-key_is [] n s e = absurd (none_not_some s e)
+key_is [] n s e = absurd (none-some s e)
 key_is (t ∷ tables) zero s e = refl
 key_is (t ∷ tables) (suc n) s e = key_is tables n s e
 
 pub parts_is : (tables : List Stored) (n : ℕ) (s : Stored) (parts : List Part) → slice_get tables n ≡ Some s → length parts ≡ 0 → slice_get (map no_part tables) n ≡ Some parts
-parts_is [] n s parts e none = absurd (none_not_some s e)
+parts_is [] n s parts e none = absurd (none-some s e)
 parts_is (t ∷ tables) zero s parts e none = ap Some (sym (nil_from_length parts none))
 parts_is (t ∷ tables) (suc n) s parts e none = parts_is tables n s parts e none
 

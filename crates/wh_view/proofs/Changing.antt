@@ -1,25 +1,19 @@
 -- What a change of one view keeps of all views.
 use Rattle.std.proofs.Common.{◌≡◌, ◌∙◌, sym, ap, refl, subst, arith, cond, filter, length, not, true, false, zero, suc, Bool, ℕ, ◌+◌, ◌<◌, ◌≤◌, List, [], ◌∷◌, ◌++◌, None, Some, slice_get, slice_set, slice_index_or, take, drop}
 use Rattle.std.proofs.lemmas.Bool.Decides.{nat_tests}
-use Rattle.std.proofs.lemmas.Option.{slice_get-get_or}
+use Rattle.std.proofs.lemmas.Option.{none-some, same_Some, slice_get-get_or}
 use Rattle.std.specs.Prelude.{nat_lt, position}
 use Rattle.std.specs.List.{position_or_len}
 use Rattle.wh_base.specs.Lists.{change_where}
 use Rattle.wh_view.specs.Kept.{Ascend, Kept, is_numbered, refreshed, suspended, switched, unregistered, with_change}
 use Rattle.wh_base.specs.declared.views.ViewEntry.{ViewEntry}
 
-none_not_some : {A : Type 0} (x : A) → None ≡ Some x → ⊥
-none_not_some x e = cc
-
-some_same : {A : Type 0} (x y : A) → Some x ≡ Some y → x ≡ y
-some_same x y e = cc
-
 pub view_is : (ks : List Kept) (n : ℕ) (k : Kept) → n < length ks → k ≡ slice_index_or ks n k → slice_get ks n ≡ Some k
 view_is ks n k h is = slice_get-get_or ks n k h ∙ ap Some (sym is)
 
 pub set_changed : (change : Kept → Kept) (ks : List Kept) (n : ℕ) (k l : Kept) → slice_get ks n ≡ Some k → l ≡ change k → slice_set ks n l ≡ with_change n change ks
-set_changed change [] n k l e is = absurd (none_not_some k e)
-set_changed change (m ∷ ks) zero k l e is = ap (λ v. v ∷ ks) (is ∙ ap change (sym (some_same m k e)))
+set_changed change [] n k l e is = absurd (none-some k e)
+set_changed change (m ∷ ks) zero k l e is = ap (λ v. v ∷ ks) (is ∙ ap change (sym (same_Some m k e)))
 set_changed change (m ∷ ks) (suc n) k l e is = ap (λ rest. m ∷ rest) (set_changed change ks n k l e is)
 
 -- ---- numbers that ascend
@@ -116,7 +110,7 @@ past_end change (suc n) (k ∷ ks) h = ap (λ rest. k ∷ rest) (past_end change
 -- ---- what a call on the first view of a number makes
 
 place_is : (b : Bool) (m place : ℕ) → cond b (Some m) None ≡ Some place → m ≡ place
-place_is true m place e = some_same m place e
+place_is true m place e = same_Some m place e
 place_is false m place e = cc
 
 place_none : (b : Bool) (m : ℕ) → cond b (Some m) None ≡ None → b ≡ false

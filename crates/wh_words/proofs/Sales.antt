@@ -1,5 +1,6 @@
 -- A word of more than six bytes is no number of sales, and a shorter one is read digit by digit.
-use Rattle.std.proofs.Common.{◌≡◌, ◌∙◌, ◌<◌, ◌≤◌, ◌&&◌, ◌+◌, ◌-◌, ◌*◌, ◌^◌, ℕ, List, ◌∷◌, cond, Bool, Option, None, Some, true, false, length, refl, ap, sym, arith, true≢false, zero, suc}
+use Rattle.std.proofs.Common.{◌≡◌, ◌∙◌, ◌<◌, ◌≤◌, ◌&&◌, ◌+◌, ◌-◌, ◌*◌, ◌^◌, ℕ, List, ◌∷◌, cond, Bool, Option, None, Some, true, false, length, refl, ap, sym, arith, zero, suc}
+use Rattle.std.proofs.lemmas.Bool.{and_parts}
 use Rattle.std.specs.Prelude.{nat_le, decimal, option_and_then}
 use Rattle.std.proofs.lemmas.Bool.Decides.{nat_tests}
 use Rattle.std.proofs.lemmas.Fmt.{length-decimal-le}
@@ -12,22 +13,14 @@ use Rattle.def_output.specs.Output.{gen_number}
 abbrev pub is_sales : List ℕ → ℕ → Bool
 is_sales w n = (nat_le 1 n && nat_le n 100000) && same_text (decimal n) w
 
-left_of : (a b : Bool) → (a && b) ≡ true → a ≡ true
-left_of true b e = refl
-left_of false b e = e
-
-right_of : (a b : Bool) → (a && b) ≡ true → b ≡ true
-right_of true b e = e
-right_of false b e = absurd (true≢false (sym e))
-
 pub range_of : (w : List ℕ) (n : ℕ) → is_sales w n ≡ true → n ≤ 100000
 range_of w n e =
-    let range : (nat_le 1 n && nat_le n 100000) ≡ true = left_of (nat_le 1 n && nat_le n 100000) (same_text (decimal n) w) e in
-    let most : nat_le n 100000 ≡ true = right_of (nat_le 1 n) (nat_le n 100000) range in
+    let range : (nat_le 1 n && nat_le n 100000) ≡ true = (and_parts (nat_le 1 n && nat_le n 100000) (same_text (decimal n) w) e).0 in
+    let most : nat_le n 100000 ≡ true = (and_parts (nat_le 1 n) (nat_le n 100000) range).1 in
     grind (arith, nat_tests, most)
 
 pub same_of : (w : List ℕ) (n : ℕ) → is_sales w n ≡ true → decimal n ≡ w
-same_of w n e = (bytes_eq-Decides (decimal n) w).0 (right_of (nat_le 1 n && nat_le n 100000) (same_text (decimal n) w) e)
+same_of w n e = (bytes_eq-Decides (decimal n) w).0 (and_parts (nat_le 1 n && nat_le n 100000) (same_text (decimal n) w) e).1
 
 -- a number of sales has at most six digits
 few_digits : (w : List ℕ) (n : ℕ) → is_sales w n ≡ true → length w ≤ 6

@@ -1,10 +1,9 @@
 use Rattle.std.proofs.Common.{◌∙◌, ◌<◌, length, subst, sym, ap, arith}
-use Rattle.std.proofs.lemmas.List.{length-map}
 use Rattle.std.specs.List.{All}
 use Rattle.wh_base.specs.declared.queries.Edge.{Edge}
-use Rattle.wh_star.proofs.Meant.{all-most, all-raised, far-most, far-room, far-tables, joined-is, root-table, tables-length}
+use Rattle.wh_star.proofs.Meant.{all-most, all-raised, far-most, far-room, far-tables, joined-is, root-table}
 use Rattle.wh_star.proofs.Pruned.{joined-pruned}
-use Rattle.wh_star.specs.Lookups.{seen_in, far_rows, indexed, indexes_of}
+use Rattle.wh_star.specs.Lookups.{seen_in, indexes_of}
 use Rattle.wh_star.proofs.joining.joined.Goals as goal
 
 pub read_indexes-requires-clause-tables : goal.read_indexes-requires-clause-tables
