@@ -464,10 +464,11 @@ def main() -> int:
     program = given.program or built_program()
     cases = [case for case in CASES if given.case is None or case.name in given.case]
     show(HEAD)
-    with tempfile.TemporaryDirectory() as folder, ProcessPoolExecutor(1) as worker:
+    with tempfile.TemporaryDirectory() as folder:
         last: tuple[Case, Times] | None = None  # the case before with its times, where some time was taken off
         for case in cases:
-            found = measure(case, program, sqlite, Path(folder), worker)
+            with ProcessPoolExecutor(1) as worker:  # a new one for each: what it holds counts for the programs that it starts
+                found = measure(case, program, sqlite, Path(folder), worker)
             show(cells(case, found))
             if case.before is None or isinstance(found, str):
                 last = None
@@ -476,9 +477,11 @@ def main() -> int:
                 show_growth(last[0], case, last[1], found)
             last = (case, found)
         if given.case is None or "load" in given.case:
-            worker.submit(measure_load, program, sqlite, Path(folder)).result()
+            with ProcessPoolExecutor(1) as worker:
+                worker.submit(measure_load, program, sqlite, Path(folder)).result()
         if given.case is None or "gen" in given.case:
-            worker.submit(measure_gen, program, Path(folder)).result()
+            with ProcessPoolExecutor(1) as worker:
+                worker.submit(measure_gen, program, Path(folder)).result()
         floor = run(["true"], Path(os.devnull), Path(os.devnull)).peak
     version = subprocess.run([sqlite, "--version"], stdout=subprocess.PIPE, text=True, check=True).stdout.split()[0]
     print(f"\nMedian of {RUNS} runs; SQLite {version}. Memory below {floor / MEGABYTE:.1f} MB isn't seen.")
