@@ -76,7 +76,7 @@ best built c q text level enabled = least_by candidate_cmp (filter_map (candidat
 abbrev pub view_plan : Candidate → Plan
 view_plan x = plan.View (record { class = x.class; view = x.view.def.view; name = x.view.def.name; point = point_of x.view; back = x.back })
 
--- The plan: the best view, and BASE exactly where no view is eligible with a class that is built.
+-- The whole choice over the classes that are handed in as built: the best view, and BASE exactly where no view is eligible with one of them.
 abbrev pub choice : (Class → Bool) → Catalog → StarQuery → List Token → Level → Bool → Plan
 choice built c q text level enabled = option_case (best built c q text level enabled) plan.Base view_plan
 

@@ -78,7 +78,7 @@ module _ (test : ColRef → Bool) where
 
 -- ---- as many rounds as there are joins reach all
 
--- how many of these joins don't have and_from columns among these
+-- how many of these joins don't have both columns among these
 abbrev pub open_joins : List ColRef → List Edge → ℕ
 open_joins cs [] = 0
 open_joins cs (e ∷ es) = cond (has_column cs e.from && has_column cs e.to) (open_joins cs es) (suc (open_joins cs es))
@@ -124,11 +124,11 @@ spread-moves : (es : List Edge) (cs : List ColRef) → Move (IsKept (has_column 
 spread-moves [] cs = Stays tt
 spread-moves (e ∷ es) cs = by (has_column cs e.from) (has_column cs e.to) refl refl (spread-moves es cs)
   where
-    -- and_from columns are in what a round leaves
+    -- both columns are in what a round leaves
     closed : (ds : List ColRef) → has_column ds e.from ≡ true → has_column ds e.to ≡ true → (has_column (spread es ds) e.from && has_column (spread es ds) e.to) ≡ true
     closed ds f g = and_from (has_column (spread es ds) e.from) (has_column (spread es ds) e.to) (spread-in es ds e.from f) (spread-in es ds e.to g)
 
-    -- as few as that are open where and_from columns are in
+    -- as few as that are open where both columns are in
     falls : (ds : List ColRef) → has_column ds e.from ≡ true → has_column ds e.to ≡ true → open_joins (spread es ds) (e ∷ es) ≡ open_joins (spread es ds) es
     falls ds f g = cond-true (has_column (spread es ds) e.from && has_column (spread es ds) e.to) (open_joins (spread es ds) es) (suc (open_joins (spread es ds) es)) (closed ds f g)
 

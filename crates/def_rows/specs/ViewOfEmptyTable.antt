@@ -1,7 +1,7 @@
 use Rattle.std.specs.Prelude.{Ok, [], codes, refl, ◌∷◌, ◌≡◌}
 use Rattle.def_rows.specs.Lines.{Ordering, Two, chars, digits, front_of, is_utf8, lines_text, output, tokens_of, utf8_valid_len}
 
--- A query without GROUP BY gives one row also from a view without rows: the sum is NULL and the count is 0.
+-- A query without GROUP BY gives one row also over a table without rows: the sum is NULL and the count is 0.
 pub view_of_empty_table :
     output (Ordering Two) (lines_text (
     codes "@setup"
